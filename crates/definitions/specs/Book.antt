@@ -1,0 +1,91 @@
+-- Document 01, "Book and sheet in memory": the 4,737 words of a book, section by section, and when a book is well formed.
+use mathlib.Core.Path.{_≡_}
+use mathlib.Core.Bool.{cond}
+use mathlib.Core.Option.{Option, none, some}
+use mathlib.Core.List.{List, [], _∷_, _++_}
+use Prim.Native.Nat.{ℕ, zero, suc, _+_, _*_, _/_, _%_}
+use lib.Dec.{eqb, ltb}
+use lib.ListN.{getD}
+use Rattle.definitions.specs.Basics.{tabulate}
+use Rattle.definitions.specs.Limits.{machines, nodes, commands, costs, absent, blank}
+use Rattle.definitions.specs.Tree.{Tree, Transition, Sound}
+
+-- the word of a number that may be absent
+unfoldable pub word : Option ℕ → ℕ
+word none = absent
+word (some n) = n
+
+-- the word of a transition
+unfoldable pub transitionWord : Option Transition → ℕ
+transitionWord none = blank
+transitionWord (some a) = a .target * costs + a .cost
+
+-- the words of one machine, by their place: holding node, start node
+unfoldable pub machineField : Tree → ℕ → ℕ → ℕ
+machineField t m zero = word (t .holder m)
+machineField t m (suc k) = word (t .start m)
+
+-- the words of one node, by their place: owner, machine below, then one for each command
+unfoldable pub nodeField : Tree → ℕ → ℕ → ℕ
+nodeField t n zero = word (t .owner n)
+nodeField t n (suc zero) = word (t .below n)
+nodeField t n (suc (suc x)) = transitionWord (t .transition n x)
+
+abbrev pub machineFields : ℕ
+machineFields = 2
+
+abbrev pub nodeFields : ℕ
+nodeFields = 18
+
+-- where the machines' words and the nodes' words begin
+abbrev pub machineBase : ℕ
+machineBase = 1
+
+abbrev pub nodeBase : ℕ
+nodeBase = 129
+
+-- the sections of a book: the root, the machines, the nodes
+unfoldable pub machineWords : Tree → List ℕ
+machineWords t = tabulate (machines * machineFields) (λ i. machineField t (i / machineFields) (i % machineFields))
+
+unfoldable pub nodeWords : Tree → List ℕ
+nodeWords t = tabulate (nodes * nodeFields) (λ i. nodeField t (i / nodeFields) (i % nodeFields))
+
+-- the words of a tree (document 01: the book)
+unfoldable pub encode : Tree → List ℕ
+encode t = t .root ∷ (machineWords t ++ nodeWords t)
+
+-- what a word says: a number, a transition, or that it is absent
+unfoldable pub number : ℕ → Option ℕ
+number w = cond (eqb w absent) none (some w)
+
+unfoldable pub transitionOf : ℕ → Option Transition
+transitionOf w = cond (eqb w blank) none (some (record { target = w / costs; cost = w % costs }))
+
+-- o for a number under its limit, and else nothing
+unfoldable pub under : {A : Type 0} → ℕ → ℕ → Option A → Option A
+under limit i o = cond (ltb i limit) o none
+
+-- the word of machine m, of node n, at a place of its record
+unfoldable pub machineWord : List ℕ → ℕ → ℕ → ℕ
+machineWord ws m k = getD ws (machineBase + m * machineFields + k) 0
+
+unfoldable pub nodeWord : List ℕ → ℕ → ℕ → ℕ
+nodeWord ws n k = getD ws (nodeBase + n * nodeFields + k) 0
+
+-- the tree that a book's words hold
+unfoldable pub treeOf : List ℕ → Tree
+treeOf ws =
+    record {
+      root = getD ws 0 0;
+      owner = λ n. under nodes n (number (nodeWord ws n 0));
+      below = λ n. under nodes n (number (nodeWord ws n 1));
+      start = λ m. under machines m (number (machineWord ws m 1));
+      holder = λ m. under machines m (number (machineWord ws m 0));
+      transition = λ n x. under nodes n (under commands x (transitionOf (nodeWord ws n (2 + x))));
+    }
+
+-- a book is well formed: its tree is sound, and its words are those of the tree, unused records included
+pub record WellFormed (ws : List ℕ) : Type 0 where
+  pub sound : Sound (treeOf ws)
+  pub words : encode (treeOf ws) ≡ ws

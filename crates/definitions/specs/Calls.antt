@@ -1,0 +1,115 @@
+-- Document 01, "Opening", "Loading a stream" and "Exit, step and plan": what each call answers and leaves, on every input.
+use mathlib.Core.Path.{_≡_}
+use mathlib.Core.Logic.{_⊎_}
+use mathlib.Core.Bool.{true}
+use mathlib.Core.Option.{Option, none, some}
+use mathlib.Core.List.{List, [], _∷_, _++_}
+use Prim.Native.Nat.{ℕ, _-_, _≤_, _<_}
+use lib.ListN.{length, drop}
+use Rattle.definitions.specs.Basics.{Distinct}
+use Rattle.definitions.specs.Limits.{machines, nodes, commands, bookLength, sheetLength}
+use Rattle.definitions.specs.Tree.{Tree, states}
+use Rattle.definitions.specs.Step.{Arrival, step, Moves, passes}
+use Rattle.definitions.specs.Costs.{LeastCost, ExitCost}
+use Rattle.definitions.specs.Book.{encode, treeOf, WellFormed}
+use Rattle.definitions.specs.Sheet.{Rows, rowsOf, encodeRows}
+use Rattle.definitions.specs.Truth.{TrueSheet}
+use Rattle.definitions.specs.Load.{Outcome, load, RowsAfterAll}
+use Rattle.definitions.specs.Open.{openRows}
+use Rattle.definitions.specs.Answer.{Answer, gives, refuses, Refusal, refuse, InOrder}
+
+-- a wrong length
+abbrev pub WrongBook : List ℕ → Type 0
+WrongBook book = length book ≡ bookLength → ⊥
+
+abbrev pub WrongLength : List ℕ → List ℕ → Type 0
+WrongLength book sheet = WrongBook book ⊎ (length sheet ≡ sheetLength → ⊥)
+
+-- the refusals that calls begin with: 1 (a wrong length), 2 (book not well formed) and, where a sheet is lent, 3 (sheet not true)
+abbrev pub bookRefusals : List ℕ → List Refusal → List Refusal
+bookRefusals book rest = refuse 1 (WrongBook book) ∷ refuse 2 (WellFormed book → ⊥) ∷ rest
+
+abbrev pub sheetRefusals : List ℕ → List ℕ → List Refusal → List Refusal
+sheetRefusals book sheet rest =
+    refuse 1 (WrongLength book sheet) ∷ refuse 2 (WellFormed book → ⊥) ∷ refuse 3 (TrueSheet (treeOf book) sheet → ⊥) ∷ rest
+
+-- Open fresh and Open ladder, with the tree that is opened: the number, and both lists after the call
+abbrev pub OpenSays : Tree → List ℕ → List ℕ → ℕ → List ℕ → List ℕ → Type 0
+OpenSays t book sheet number book′ sheet′ =
+    InOrder (refuse 1 (WrongLength book sheet) ∷ [])
+    (λ k. (number ≡ k) × (book′ ≡ book) × (sheet′ ≡ sheet))
+    ((number ≡ 0) × (book′ ≡ encode t) × (sheet′ ≡ encodeRows (openRows t)))
+
+-- Load: bytes taken, commands taken and 0 or the refusal, and both lists after the call
+pub record LoadAnswer : Type 0 where
+  pub bytes : ℕ
+  pub commands : ℕ
+  pub number : ℕ
+
+-- what the taken commands of the stream leave, o being what becomes of the stream on the book's tree
+pub record LoadDone (t : Tree) (r : Rows) (o : Outcome) (answer : LoadAnswer) (book′ sheet′ : List ℕ) : Type 0 where
+  pub answered : answer ≡ record { bytes = o .bytes; commands = length (o .commands); number = o .number }
+  pub book : book′ ≡ encode (o .tree)
+  pub rows : Rows
+  pub done : RowsAfterAll t (o .commands) r rows
+  pub sheet : sheet′ ≡ encodeRows rows
+
+abbrev pub LoadSays : List ℕ → List ℕ → List ℕ → LoadAnswer → List ℕ → List ℕ → Type 0
+LoadSays book sheet stream answer book′ sheet′ =
+    InOrder (sheetRefusals book sheet [])
+    (λ k. (answer ≡ record { bytes = 0; commands = 0; number = k }) × (book′ ≡ book) × (sheet′ ≡ sheet))
+    (LoadDone (treeOf book) (rowsOf sheet) (load (treeOf book) stream) answer book′ sheet′)
+
+-- Exit: the exit cost of machine m for x. It refuses also 6 (number out of range), 7 (not in use), 13 (that machine marked),
+-- 16 (no way)
+abbrev pub ExitSays : List ℕ → List ℕ → ℕ → ℕ → Answer → Type 0
+ExitSays book sheet m x answer =
+    InOrder
+    (sheetRefusals book sheet
+    (refuse 6 ((m < machines) × (x < commands) → ⊥)
+    ∷ refuse 7 (treeOf book .start m ≡ none)
+    ∷ refuse 13 (rowsOf sheet .stale m ≡ true)
+    ∷ refuse 16 (ExitCost (treeOf book) m x none)
+    ∷ []))
+    (λ k. answer ≡ refuses k)
+    ((c : ℕ) × ExitCost (treeOf book) m x (some c) × (answer ≡ gives (c ∷ [])))
+
+-- Step: the state and the cost. It refuses also 6, 7, 14 (node not plain), 17 (the station stops)
+abbrev pub StepSays : List ℕ → ℕ → ℕ → Answer → Type 0
+StepSays book s x answer =
+    InOrder
+    (bookRefusals book
+    (refuse 6 ((s < nodes) × (x < commands) → ⊥)
+    ∷ refuse 7 (treeOf book .owner s ≡ none)
+    ∷ refuse 14 (treeOf book .below s ≡ none → ⊥)
+    ∷ refuse 17 (step (treeOf book) s x ≡ none)
+    ∷ []))
+    (λ k. answer ≡ refuses k)
+    ((a : Arrival) × (step (treeOf book) s x ≡ some a) × (answer ≡ gives (a .state ∷ a .cost ∷ [])))
+
+-- the cheapest list from a to b: it moves the tree there, passes no state twice, and no list that does costs less
+pub record Plan (t : Tree) (a b cost : ℕ) (list : List ℕ) : Type 0 where
+  pub moves : Moves t a b list cost
+  pub simple : Distinct (passes t a list)
+  pub least : LeastCost t a b (some cost)
+
+-- what Plan refuses on a tree and its rows, with room for so many commands: 13 (any machine marked), 6, 7, 14,
+-- 15 (buffer shorter than states less 1), 16 (no way)
+abbrev pub planRefusals : Tree → Rows → ℕ → ℕ → ℕ → List Refusal
+planRefusals t r a b room =
+    refuse 13 ((m : ℕ) × (r .stale m ≡ true))
+    ∷ refuse 6 ((a < nodes) × (b < nodes) → ⊥)
+    ∷ refuse 7 ((t .owner a ≡ none) ⊎ (t .owner b ≡ none))
+    ∷ refuse 14 ((t .below a ≡ none) × (t .below b ≡ none) → ⊥)
+    ∷ refuse 15 (room < states t - 1)
+    ∷ refuse 16 (LeastCost t a b none)
+    ∷ []
+
+-- Plan: cost and count, and the commands at the front of the plan buffer, later bytes untouched
+abbrev pub PlanSays : List ℕ → List ℕ → ℕ → ℕ → List ℕ → Answer → List ℕ → Type 0
+PlanSays book sheet a b buffer answer buffer′ =
+    InOrder (sheetRefusals book sheet (planRefusals (treeOf book) (rowsOf sheet) a b (length buffer)))
+    (λ k. (answer ≡ refuses k) × (buffer′ ≡ buffer))
+    ((cost : ℕ) × (list : List ℕ) × Plan (treeOf book) a b cost list
+    × (answer ≡ gives (cost ∷ length list ∷ []))
+    × (buffer′ ≡ list ++ drop (length list) buffer))

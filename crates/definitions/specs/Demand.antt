@@ -1,0 +1,73 @@
+-- The customer's demands 2 (its last clause) and 3, each as one statement.
+use mathlib.Core.Path.{_≡_}
+use mathlib.Core.Logic.{_⊎_}
+use mathlib.Core.Bool.{Bool, true, false}
+use mathlib.Core.List.{List, [], _∷_, _++_}
+use Prim.Native.Nat.{ℕ, _≤_, _<_}
+use lib.ListN.{length, take}
+use Rattle.definitions.specs.Basics.{All, Distinct}
+use Rattle.definitions.specs.Limits.{planBuffer}
+use Rattle.definitions.specs.Tree.{Tree, isState, usedMachine}
+use Rattle.definitions.specs.Step.{Moves, passes}
+use Rattle.definitions.specs.Costs.{LeastCost}
+use Rattle.definitions.specs.Book.{WellFormed, treeOf}
+use Rattle.definitions.specs.Sheet.{rowsOf}
+use Rattle.definitions.specs.Truth.{TrueSheet}
+use Rattle.definitions.specs.Load.{expected}
+use Rattle.definitions.specs.Open.{Opening, openTree}
+use Rattle.definitions.specs.Answer.{Answer, gives, refuses}
+use Rattle.definitions.specs.Calls.{OpenSays, LoadAnswer, LoadSays, PlanSays}
+use Rattle.definitions.specs.Write.{written}
+
+-- the elements of a byte string
+abbrev pub Bytes : List ℕ → Type 0
+Bytes = All (λ b. b < 256)
+
+-- a list of Load calls, each with its stream: each gets the book and sheet that the one before left
+pub data Loads : List ℕ → List ℕ → List (List ℕ) → List ℕ → List ℕ → Type 0 where
+  done : {book sheet : List ℕ} → Loads book sheet [] book sheet
+  then : {book sheet stream mid mid-sheet book′ sheet′ : List ℕ} {streams : List (List ℕ)} {answer : LoadAnswer}
+      → LoadSays book sheet stream answer mid mid-sheet → Loads mid mid-sheet streams book′ sheet′
+      → Loads book sheet (stream ∷ streams) book′ sheet′
+
+-- the stream that is a refresh alone
+abbrev pub refreshAlone : List ℕ
+refreshAlone = 0x18 ∷ []
+
+-- a plan from a to b of this tree, read off the front of the buffer: it moves the tree from a to b, passes no state twice, its
+-- cost is the stated one, and every list that moves the tree from a to b costs at least as much
+pub record GoodPlan (t : Tree) (a b : ℕ) (answer : Answer) (buffer : List ℕ) : Type 0 where
+  pub cost : ℕ
+  pub count : ℕ
+  pub stated : answer ≡ gives (cost ∷ count ∷ [])
+  pub fits : length (take count buffer) ≡ count
+  pub moves : Moves t a b (take count buffer) cost
+  pub simple : Distinct (passes t a (take count buffer))
+  pub least : (xs : List ℕ) (c : ℕ) → Moves t a b xs c → cost ≤ c
+
+-- "no way": the refusal 16, and no list of commands moves the tree from a to b
+pub record NoWay (t : Tree) (a b : ℕ) (answer : Answer) : Type 0 where
+  pub stated : answer ≡ refuses 16
+  pub stuck : (xs : List ℕ) (c : ℕ) → Moves t a b xs c → ⊥
+
+-- Demand 3, one claim on the whole list of calls and the Plan after it. Of an opening, streams of bytes, lists as opened, and
+-- lists that Load left for each stream in turn and last for a refresh alone; of any two states of the expected station and any
+-- 255 bytes: Plan's answer is a good plan or "no way" of the expected station.
+abbrev pub Demand3 : Type 0
+Demand3 =
+    (opening : Opening) (streams : List (List ℕ)) → All Bytes streams
+    → (lent lent-sheet opened opened-sheet book sheet : List ℕ)
+    → OpenSays (openTree opening) lent lent-sheet 0 opened opened-sheet
+    → Loads opened opened-sheet (streams ++ (refreshAlone ∷ [])) book sheet
+    → (a b : ℕ) → isState (expected (openTree opening) streams) a ≡ true → isState (expected (openTree opening) streams) b ≡ true
+    → (buffer : List ℕ) → length buffer ≡ planBuffer → (answer : Answer) (buffer′ : List ℕ) → PlanSays book sheet a b buffer answer buffer′
+    → GoodPlan (expected (openTree opening) streams) a b answer buffer′ ⊎ NoWay (expected (openTree opening) streams) a b answer
+
+-- Demand 2, its last clause: the stream that is written for a well-formed book, loaded into any holding whose book is well
+-- formed and sheet true, is taken whole and leaves the same book, every machine in use marked
+abbrev pub SameBook : Type 0
+SameBook =
+    (book other sheet book′ sheet′ : List ℕ) (answer : LoadAnswer) → WellFormed book → WellFormed other
+    → TrueSheet (treeOf other) sheet → LoadSays other sheet (written (treeOf book)) answer book′ sheet′
+    → (answer .bytes ≡ length (written (treeOf book))) × (answer .number ≡ 0) × (book′ ≡ book)
+    × ((m : ℕ) → rowsOf sheet′ .stale m ≡ usedMachine (treeOf book) m)

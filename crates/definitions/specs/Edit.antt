@@ -1,0 +1,202 @@
+-- Document 01, "Loading a stream": the refusals 6 to 12 of each command, what it does to the tree, and which rows it marks and
+-- blanks. The same definitions make Load's promise and the expected station of demand 3.
+use mathlib.Core.Path.{_≡_}
+use mathlib.Core.Bool.{Bool, true, false, cond, not, _&&_, _||_}
+use mathlib.Core.Option.{Option, none, some}
+use mathlib.Core.List.{List, [], _∷_}
+use Prim.Native.Nat.{ℕ}
+use lib.Dec.{eqb, ltb}
+use Rattle.definitions.specs.Basics.{_>>=_, option, unless, isSome, isAt, put, anyBelow}
+use Rattle.definitions.specs.Limits.{machines, nodes, commands, levels}
+use Rattle.definitions.specs.Tree.{Tree, Transition, usedMachine, usedNode, level, within, over}
+use Rattle.definitions.specs.Sheet.{Rows}
+use Rattle.definitions.specs.Truth.{TrueRows}
+use Rattle.definitions.specs.Stream.{Edit, begin, add, refine, remove, arrow, clear, start, crown, Command, edit, refresh}
+
+infix 5 _when_
+-- a number that a command is refused with, and the test for it
+pub data Test : Type 0 where
+  _when_ : ℕ → Bool → Test
+
+-- the number of the first test that holds; 0 where none does
+unfoldable pub firstHolding : List Test → ℕ
+firstHolding [] = 0
+firstHolding ((k when b) ∷ rest) = cond b k (firstHolding rest)
+
+-- a machine, a node, a command that is out of range
+abbrev pub badMachine : ℕ → Bool
+badMachine m = not (ltb m machines)
+
+abbrev pub badNode : ℕ → Bool
+badNode n = not (ltb n nodes)
+
+abbrev pub badCommand : ℕ → Bool
+badCommand x = not (ltb x commands)
+
+-- whether a node is the start node of its machine
+abbrev pub isStart : Tree → ℕ → Bool
+isStart t n = option false (λ m. isAt (t .start m) n) (t .owner n)
+
+-- whether two nodes in use belong to different machines
+abbrev pub apart : Tree → ℕ → ℕ → Bool
+apart t n v = option true (λ m. not (isAt (t .owner v) m)) (t .owner n)
+
+-- whether a node stands at the lowest level that may be, and whether any node does
+abbrev pub lowest : Tree → ℕ → Bool
+lowest t n = usedNode t n && eqb (level t n) levels
+
+-- the refusals of each command in their order: 6 (number out of range), 7 (machine or node not in use), 8 (new number in use),
+-- 9 (already refined), 10 (a start node), 11 (target in another machine), 12 (over 8 levels)
+unfoldable pub refusals : Tree → Edit → List Test
+refusals t (begin m n) = (6 when (badMachine m || badNode n)) ∷ []
+refusals t (add m n) =
+    (6 when (badMachine m || badNode n)) ∷ (7 when not (usedMachine t m)) ∷ (8 when usedNode t n) ∷ []
+refusals t (refine n m s) =
+    (6 when (badNode n || badMachine m || badNode s)) ∷ (7 when not (usedNode t n)) ∷ (8 when (usedMachine t m || usedNode t s))
+    ∷ (9 when isSome (t .below n)) ∷ (12 when lowest t n) ∷ []
+refusals t (remove n) = (6 when badNode n) ∷ (7 when not (usedNode t n)) ∷ (10 when isStart t n) ∷ []
+refusals t (arrow n x v c) =
+    (6 when (badNode n || badCommand x || badNode v)) ∷ (7 when (not (usedNode t n) || not (usedNode t v))) ∷ (11 when apart t n v) ∷ []
+refusals t (clear n x) = (6 when (badNode n || badCommand x)) ∷ (7 when not (usedNode t n)) ∷ []
+refusals t (start n) = (6 when badNode n) ∷ (7 when not (usedNode t n)) ∷ []
+refusals t (crown m n) =
+    (6 when (badMachine m || badNode n)) ∷ (8 when (usedMachine t m || usedNode t n)) ∷ (12 when anyBelow nodes (lowest t)) ∷ []
+
+-- the number that a command is refused with; 0 where it is taken
+unfoldable pub refusal : Tree → Command → ℕ
+refusal t (edit e) = firstHolding (refusals t e)
+refusal t refresh = 0
+
+-- one machine, as root, with one node, its start
+unfoldable pub single : ℕ → ℕ → Tree
+single m n =
+    record {
+      root = m;
+      owner = put (λ k. none) n (some m);
+      below = λ k. none;
+      start = put (λ k. none) m (some n);
+      holder = λ k. none;
+      transition = λ k x. none;
+    }
+
+-- whether a machine is held by node n or by a node below it
+abbrev pub heldWithin : Tree → ℕ → ℕ → Bool
+heldWithin t n m = option false (within t n) (t .holder m)
+
+-- the tree without node n, all below it, and the transitions into it
+unfoldable pub without : Tree → ℕ → Tree
+without t n =
+    record {
+      root = t .root;
+      owner = λ k. unless (within t n k) (t .owner k);
+      below = λ k. unless (within t n k) (t .below k);
+      start = λ m. unless (heldWithin t n m) (t .start m);
+      holder = λ m. unless (heldWithin t n m) (t .holder m);
+      transition = λ k x. unless (within t n k) (t .transition k x >>= λ a. unless (eqb (a .target) n) (some a));
+    }
+
+-- the tree with o as the transition of node n for x
+unfoldable pub withTransition : Tree → ℕ → ℕ → Option Transition → Tree
+withTransition t n x o =
+    record {
+      root = t .root;
+      owner = t .owner;
+      below = t .below;
+      start = t .start;
+      holder = t .holder;
+      transition = put (t .transition) n (put (t .transition n) x o);
+    }
+
+-- the tree with node n as the start of its machine
+unfoldable pub withStart : Tree → ℕ → Tree
+withStart t n =
+    record {
+      root = t .root;
+      owner = t .owner;
+      below = t .below;
+      start = option (t .start) (λ m. put (t .start) m (some n)) (t .owner n);
+      holder = t .holder;
+      transition = t .transition;
+    }
+
+-- the tree after an edit that is taken
+unfoldable pub edited : Tree → Edit → Tree
+edited t (begin m n) = single m n
+edited t (add m n) =
+    record {
+      root = t .root;
+      owner = put (t .owner) n (some m);
+      below = t .below;
+      start = t .start;
+      holder = t .holder;
+      transition = t .transition;
+    }
+edited t (refine n m s) =
+    record {
+      root = t .root;
+      owner = put (t .owner) s (some m);
+      below = put (t .below) n (some m);
+      start = put (t .start) m (some s);
+      holder = put (t .holder) m (some n);
+      transition = t .transition;
+    }
+edited t (remove n) = without t n
+edited t (arrow n x v c) = withTransition t n x (some (record { target = v; cost = c }))
+edited t (clear n x) = withTransition t n x none
+edited t (start n) = withStart t n
+edited t (crown m n) =
+    record {
+      root = m;
+      owner = put (t .owner) n (some m);
+      below = put (t .below) n (some (t .root));
+      start = put (t .start) m (some n);
+      holder = put (t .holder) (t .root) (some n);
+      transition = t .transition;
+    }
+
+-- the tree after a command that is taken; a refresh changes nothing
+abbrev pub treeAfter : Tree → Command → Tree
+treeAfter t (edit e) = edited t e
+treeAfter t refresh = t
+
+-- whether an edit marks machine p: new machines, the machine edited and all above it; crown marks only the new root
+unfoldable pub touches : Tree → Edit → ℕ → Bool
+touches t (begin m n) p = eqb p m
+touches t (add m n) p = option false (over t p) (t .start m)
+touches t (refine n m s) p = eqb p m || over t p n
+touches t (remove n) p = over t p n
+touches t (arrow n x v c) p = over t p n
+touches t (clear n x) p = over t p n
+touches t (start n) p = over t p n
+touches t (crown m n) p = eqb p m
+
+-- the rows where the machines in use that pass the test are marked and blanked; unused ones have mark 0 and are blank
+unfoldable pub marked : Tree → (ℕ → Bool) → Rows → Rows
+marked t touched r =
+    record {
+      stale = λ m. usedMachine t m && (touched m || r .stale m);
+      exit = λ m x. unless (not (usedMachine t m) || touched m) (r .exit m x);
+      last = λ m x. unless (not (usedMachine t m) || touched m) (r .last m x);
+      cost = λ n. unless (option true touched (t .owner n)) (r .cost n);
+      before = λ n. unless (option true touched (t .owner n)) (r .before n);
+      by = λ n. unless (option true touched (t .owner n)) (r .by n);
+    }
+
+-- the rows after an edit
+unfoldable pub editedRows : Tree → Edit → Rows → Rows
+editedRows t e r = marked (edited t e) (touches t e) r
+
+-- a refresh: every stale row is filled and no longer stale, and no other row is touched
+pub record Refreshed (t : Tree) (r after : Rows) : Type 0 where
+  pub filled : TrueRows t after
+  pub fresh : (m : ℕ) → after .stale m ≡ false
+  pub exit-kept : (m x : ℕ) → r .stale m ≡ false → after .exit m x ≡ r .exit m x
+  pub last-kept : (m x : ℕ) → r .stale m ≡ false → after .last m x ≡ r .last m x
+  pub cost-kept : (n m : ℕ) → t .owner n ≡ some m → r .stale m ≡ false → after .cost n ≡ r .cost n
+  pub before-kept : (n m : ℕ) → t .owner n ≡ some m → r .stale m ≡ false → after .before n ≡ r .before n
+  pub by-kept : (n m : ℕ) → t .owner n ≡ some m → r .stale m ≡ false → after .by n ≡ r .by n
+
+-- the rows that a command that is taken leaves: those of the edit, or for refresh any that document 01 leaves free
+abbrev pub RowsAfter : Tree → Command → Rows → Rows → Type 0
+RowsAfter t (edit e) r after = after ≡ editedRows t e r
+RowsAfter t refresh r after = Refreshed t r after

@@ -1,0 +1,19 @@
+-- The text to believe, in the order of document 01. Each file opens with the part of document 01 that it says.
+pub mod Basics
+pub mod Limits
+pub mod Tree
+pub mod Step
+pub mod Costs
+pub mod Book
+pub mod Sheet
+pub mod Truth
+pub mod Stream
+pub mod Edit
+pub mod Load
+pub mod Open
+pub mod Answer
+pub mod Calls
+pub mod Write
+pub mod Choose
+pub mod Session
+pub mod Demand

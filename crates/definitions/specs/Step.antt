@@ -1,0 +1,96 @@
+-- Document 01, "The tree and its step": entering a node, the step and its cost, and what a list of commands does.
+-- (Definition 3 of sources 000 and 001, as document 01 fixes it.)
+use mathlib.Core.Path.{_≡_}
+use mathlib.Core.Bool.{Bool, true, false, cond}
+use mathlib.Core.Option.{Option, none, some}
+use mathlib.Core.List.{List, [], _∷_}
+use Prim.Native.Nat.{ℕ, zero, suc, _+_}
+use Rattle.definitions.specs.Basics.{_>>=_, option, isAt}
+use Rattle.definitions.specs.Limits.{levels}
+use Rattle.definitions.specs.Tree.{Tree, Transition, path}
+
+-- to enter a node: a plain node is the state; else on to the start node of the machine below it
+unfoldable pub enterF : ℕ → Tree → ℕ → Option ℕ
+enterF zero t n = none
+enterF (suc k) t n = option (some n) (λ m. t .start m >>= λ s. enterF k t s) (t .below n)
+
+unfoldable pub enter : Tree → ℕ → Option ℕ
+enter t n = enterF levels t n
+
+-- the state where a machine starts (document 01: M's start state)
+unfoldable pub startState : Tree → ℕ → Option ℕ
+startState t m = t .start m >>= λ s. enter t s
+
+-- the transition of a node that counts for a command
+abbrev pub counting : Tree → ℕ → ℕ → Option Transition
+counting t n x = t .transition n x
+
+-- what leaving a machine costs (document 01: Leaving a machine costs nothing)
+abbrev pub leaving : Tree → ℕ → ℕ
+leaving t m = 0
+
+-- what leaving a node's machine costs
+abbrev pub leavingOf : Tree → ℕ → ℕ
+leavingOf t n = option 0 (leaving t) (t .owner n)
+
+-- Where a command finds a transition: at this node, with this target and cost. Or it finds none, and has left machines at this cost.
+pub data Climb : Type 0 where
+  found : (node target cost : ℕ) → Climb
+  passed : (cost : ℕ) → Climb
+
+-- the same after a machine was left at cost l
+abbrev pub past : ℕ → Climb → Climb
+past l (found n v c) = found n v (l + c)
+past l (passed c) = passed (l + c)
+
+-- the transition a of node n, or else what is found further up
+abbrev pub firstOf : ℕ → Option Transition → Climb → Climb
+firstOf n none up = up
+firstOf n (some a) up = found n (a .target) (a .cost)
+
+-- the first node of a path that has a transition for x, looking no further than the nodes of machine top
+unfoldable pub look : Tree → ℕ → ℕ → List ℕ → Climb
+look t top x [] = passed 0
+look t top x (n ∷ up) =
+    firstOf n (counting t n x) (cond (isAt (t .owner n) top) (passed 0) (past (leavingOf t n) (look t top x up)))
+
+-- the lowest node, n itself first and then the nodes that hold it, up to those of machine top, that has a transition for x
+unfoldable pub climb : Tree → ℕ → ℕ → ℕ → Climb
+climb t top n x = look t top x (path t n)
+
+-- a state, and what it cost to come there
+pub record Arrival : Type 0 where
+  pub state : ℕ
+  pub cost : ℕ
+
+-- the target is entered; where nothing was found the tree stops
+abbrev pub follow : Tree → Climb → Option Arrival
+follow t (found n v c) = enter t v >>= λ s. some (record { state = s; cost = c })
+follow t (passed c) = none
+
+-- what a command does at a state if only transitions in machine top or below it are used; none where it finds none there
+unfoldable pub stepIn : Tree → ℕ → ℕ → ℕ → Option Arrival
+stepIn t top s x = follow t (climb t top s x)
+
+-- what a command does at a state (document 01: the step and its charge); none where the station stops
+unfoldable pub step : Tree → ℕ → ℕ → Option Arrival
+step t s x = stepIn t (t .root) s x
+
+-- where a list of commands leads and what it costs, with transitions in machine top or below it; none where a command finds none
+unfoldable pub runIn : Tree → ℕ → ℕ → List ℕ → Option Arrival
+runIn t top s [] = some (record { state = s; cost = 0 })
+runIn t top s (x ∷ xs) =
+    stepIn t top s x >>= λ a. runIn t top (a .state) xs >>= λ b. some (record { state = b .state; cost = a .cost + b .cost })
+
+-- where a list of commands moves the tree and its cost; none where a command stops it
+unfoldable pub run : Tree → ℕ → List ℕ → Option Arrival
+run t s xs = runIn t (t .root) s xs
+
+-- the list moves the tree from a to b at this cost (document 01: moves)
+abbrev pub Moves : Tree → ℕ → ℕ → List ℕ → ℕ → Type 0
+Moves t a b xs c = run t a xs ≡ some (record { state = b; cost = c })
+
+-- the states that a list passes: the one where it begins and each that a command leads to
+unfoldable pub passes : Tree → ℕ → List ℕ → List ℕ
+passes t s [] = s ∷ []
+passes t s (x ∷ xs) = s ∷ option [] (λ a. passes t (a .state) xs) (step t s x)

@@ -1,0 +1,96 @@
+-- Document 01, "The tree and its step": the tree of machines, and when it is one. No word of memory stands here.
+use mathlib.Core.Path.{_≡_}
+use mathlib.Core.Bool.{Bool, true, false, not, _&&_}
+use mathlib.Core.Option.{Option, none, some}
+use mathlib.Core.List.{List, [], _∷_}
+use Prim.Native.Nat.{ℕ, zero, suc, _≤_, _<_}
+use lib.Dec.{eqb}
+use lib.ListN.{length}
+use Rattle.definitions.specs.Basics.{_>>=_, option, isSome, isAt, iterate, countBelow, anyOf}
+use Rattle.definitions.specs.Limits.{machines, nodes, commands, costs, levels}
+
+-- one transition of a node (document 01: an arrow and its charge)
+pub record Transition : Type 0 where
+  pub target : ℕ
+  pub cost : ℕ
+
+-- A tree of machines. A machine is in use where it has a start node, a node where it has an owner.
+pub record Tree : Type 0 where
+  -- the root machine
+  pub root : ℕ
+  -- the machine that a node belongs to
+  pub owner : ℕ → Option ℕ
+  -- the machine that a node holds (document 01: machine below); a node that holds none is plain
+  pub below : ℕ → Option ℕ
+  -- the start node of a machine
+  pub start : ℕ → Option ℕ
+  -- the node that holds a machine (document 01: holding node)
+  pub holder : ℕ → Option ℕ
+  -- the transition of a node for a command
+  pub transition : ℕ → ℕ → Option Transition
+
+-- whether a machine, a node is in use
+abbrev pub usedMachine : Tree → ℕ → Bool
+usedMachine t m = isSome (t .start m)
+
+abbrev pub usedNode : Tree → ℕ → Bool
+usedNode t n = isSome (t .owner n)
+
+-- whether a node is a state (document 01: a plain node)
+abbrev pub isState : Tree → ℕ → Bool
+isState t n = usedNode t n && not (isSome (t .below n))
+
+-- how many states there are
+unfoldable pub states : Tree → ℕ
+states t = countBelow nodes (isState t)
+
+-- the machine just above a machine: the owner of the node that holds it
+unfoldable pub parent : Tree → ℕ → Option ℕ
+parent t m = t .holder m >>= t .owner
+
+-- the node that holds a node's machine
+unfoldable pub above : Tree → ℕ → Option ℕ
+above t n = t .owner n >>= t .holder
+
+-- a node, the node that holds its machine, and so on up to a node of the root: one node for each level
+unfoldable pub pathF : ℕ → Tree → ℕ → List ℕ
+pathF zero t n = []
+pathF (suc k) t n = n ∷ option [] (λ h. pathF k t h) (above t n)
+
+unfoldable pub path : Tree → ℕ → List ℕ
+path t n = pathF levels t n
+
+-- the level of a node's machine, 1 for the root
+unfoldable pub level : Tree → ℕ → ℕ
+level t n = length (path t n)
+
+-- whether node d is node n or below it
+unfoldable pub within : Tree → ℕ → ℕ → Bool
+within t n d = anyOf (eqb n) (path t d)
+
+-- whether machine p owns node n or is above n's machine
+unfoldable pub over : Tree → ℕ → ℕ → Bool
+over t p n = anyOf (λ d. isAt (t .owner d) p) (path t n)
+
+-- document 01's conditions on a tree: numbers in range, unused records empty, and "well formed"
+pub record Sound (t : Tree) : Type 0 where
+  -- the root is in use and no node holds it
+  pub root-used : (s : ℕ) × (t .start (t .root) ≡ some s)
+  pub root-free : t .holder (t .root) ≡ none
+  -- numbers in use are in range
+  pub machine-range : (m s : ℕ) → t .start m ≡ some s → m < machines
+  pub node-range : (n m : ℕ) → t .owner n ≡ some m → n < nodes
+  -- a node belongs to a machine in use, and a start node to its machine
+  pub owner-used : (n m : ℕ) → t .owner n ≡ some m → (s : ℕ) × (t .start m ≡ some s)
+  pub start-owned : (m s : ℕ) → t .start m ≡ some s → t .owner s ≡ some m
+  -- holder and held name each other, and both are in use
+  pub below-held : (n m : ℕ) → t .below n ≡ some m → t .holder m ≡ some n
+  pub held-below : (m n : ℕ) → t .holder m ≡ some n → t .below n ≡ some m
+  pub holder-used : (m n : ℕ) → t .holder m ≡ some n → (p : ℕ) × (t .owner n ≡ some p)
+  pub held-used : (m n : ℕ) → t .holder m ≡ some n → (s : ℕ) × (t .start m ≡ some s)
+  -- transitions are for commands, cost less than 65,536, and stay in the machine of their node
+  pub transition-range : (n x : ℕ) (a : Transition) → t .transition n x ≡ some a → (x < commands) × (a .cost < costs)
+  pub transition-owned : (n x : ℕ) (a : Transition) → t .transition n x ≡ some a
+      → (m : ℕ) × (t .owner n ≡ some m) × (t .owner (a .target) ≡ some m)
+  -- every machine in use climbs to the root in at most 7 steps
+  pub climbs : (m s : ℕ) → t .start m ≡ some s → (k : ℕ) × (k < levels) × (iterate (parent t) k m ≡ some (t .root))

@@ -1,0 +1,53 @@
+-- Document 01, "Writing, choosing, the session": the one stream that Write gives for a tree.
+use mathlib.Core.Path.{_≡_}
+use mathlib.Core.Bool.{Bool, true, false, cond, not, _&&_}
+use mathlib.Core.Option.{Option, none, some}
+use mathlib.Core.List.{List, [], _∷_, _++_}
+use Prim.Native.Nat.{ℕ, suc, _/_, _%_, _<_}
+use lib.Dec.{eqb}
+use lib.ListN.{length, drop}
+use Rattle.definitions.specs.Basics.{_>>=_, option, joined}
+use Rattle.definitions.specs.Limits.{nodes, commands, levels}
+use Rattle.definitions.specs.Tree.{Tree, level}
+use Rattle.definitions.specs.Edit.{isStart}
+use Rattle.definitions.specs.Book.{treeOf}
+use Rattle.definitions.specs.Answer.{Answer, gives, refuses, refuse, InOrder}
+use Rattle.definitions.specs.Calls.{bookRefusals}
+
+-- two bytes, high byte first
+abbrev pub pair : ℕ → List ℕ
+pair n = n / 256 ∷ n % 256 ∷ []
+
+-- begin with root and start
+unfoldable pub writtenBegin : Tree → List ℕ
+writtenBegin t = option [] (λ s. 0x10 ∷ t .root ∷ pair s) (t .start (t .root))
+
+-- add, for node n where its machine stands at level l and n is not its start
+unfoldable pub writtenAdd : Tree → ℕ → ℕ → List ℕ
+writtenAdd t l n =
+    option [] (λ m. cond (eqb (level t n) l && not (isStart t n)) (0x11 ∷ m ∷ pair n) []) (t .owner n)
+
+-- refine, for node n where its machine stands at level l and n is refined
+unfoldable pub writtenRefine : Tree → ℕ → ℕ → List ℕ
+writtenRefine t l n =
+    option [] (λ m. option [] (λ s. cond (eqb (level t n) l) (0x12 ∷ (pair n ++ m ∷ pair s)) []) (t .start m)) (t .below n)
+
+-- arrow, for node n and command x where there is one
+unfoldable pub writtenArrow : Tree → ℕ → ℕ → List ℕ
+writtenArrow t n x = option [] (λ a. 0x14 ∷ (pair n ++ x ∷ (pair (a .target) ++ pair (a .cost)))) (t .transition n x)
+
+-- the whole stream: begin; for each level first add, then refine, both by rising node; last all arrows by node, then command
+unfoldable pub written : Tree → List ℕ
+written t =
+    writtenBegin t
+    ++ (joined levels (λ l. joined nodes (writtenAdd t (suc l)) ++ joined nodes (writtenRefine t (suc l)))
+    ++ joined nodes (λ n. joined commands (writtenArrow t n)))
+
+-- Write: the length, and the stream at the front of the output, the rest untouched. It refuses 1, 2, 15 (output shorter than the
+-- stream), writing nothing
+abbrev pub WriteSays : List ℕ → List ℕ → Answer → List ℕ → Type 0
+WriteSays book out answer out′ =
+    InOrder (bookRefusals book (refuse 15 (length out < length (written (treeOf book))) ∷ []))
+    (λ k. (answer ≡ refuses k) × (out′ ≡ out))
+    ((answer ≡ gives (length (written (treeOf book)) ∷ []))
+    × (out′ ≡ written (treeOf book) ++ drop (length (written (treeOf book))) out))
