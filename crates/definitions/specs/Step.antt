@@ -22,11 +22,11 @@ unfoldable pub startState : Tree → ℕ → Option ℕ
 startState t m = t .start m >>= λ s. enter t s
 
 -- the transition of a node that counts for a command
-abbrev pub counting : Tree → ℕ → ℕ → Option Transition
+unfoldable pub counting : Tree → ℕ → ℕ → Option Transition
 counting t n x = t .transition n x
 
 -- what leaving a machine costs (document 01: Leaving a machine costs nothing)
-abbrev pub leaving : Tree → ℕ → ℕ
+unfoldable pub leaving : Tree → ℕ → ℕ
 leaving t m = 0
 
 -- what leaving a node's machine costs
