@@ -2,17 +2,12 @@
 -- climb that finds nothing in b goes on from the node that holds b. Assumes nothing.
 use mathlib.Core.Path.{_≡_, refl, sym, _∙_, ap, subst}
 use mathlib.Core.Option.{Option, none, some}
-use mathlib.Core.List.{List, [], _∷_}
-use Prim.Native.Nat.{ℕ, zero, suc, _+_, _≤_, _<_}
+use Prim.Native.Nat.{ℕ, _+_, _≤_, _<_}
 use native.Mathlib.Omega.{arith}
 use native.Mathlib.Nat.{zero-add, add-assoc}
-use Rattle.definitions.specs.Basics.{_>>=_}
-use Rattle.definitions.specs.Limits.{levels}
 use Rattle.definitions.specs.Tree.{Tree, Transition, Sound}
-use Rattle.definitions.specs.Step.{enter, counting, leaving, Climb, found, passed, past, climb, Arrival, follow, stepIn, runIn}
-use Rattle.definitions.proofs.Options.{bind-some, none-some, some-same}
-use Rattle.definitions.proofs.Path.{Deep, at-root, under, root-holder, deep-unique, deep, Enters, plain, down, enter-enters, Inside, own, deeper, counting-owned, climb-own, climb-top, climb-on, Found, climb-found, passed-found, past-found}
-use Rattle.definitions.proofs.Runs.{run-first, run-cons, run-nil}
+use Rattle.definitions.specs.Step.{counting, leaving, Climb, found, passed, past, climb}
+use Rattle.definitions.proofs.Path.{Deep, at-root, under, root-holder, deep-unique, deep, Enters, plain, down, Inside, own, deeper, counting-owned, climb-own, climb-top, climb-on, passed-found, past-found}
 
 -- a machine with a node inside it is in use, and so is the node
 pub inside-owner : {t : Tree} {top n : ℕ} → Inside t top n → (m : ℕ) × (t .owner n ≡ some m)

@@ -4,5 +4,9 @@ pub mod Words
 pub mod Path
 pub mod Runs
 pub mod Inside
+pub mod Exits
 pub mod Local
 pub mod Potential
+pub mod Realize
+pub mod LocalTruth
+pub mod Simple

@@ -1,6 +1,6 @@
 -- The way up and the way down in a sound tree: how deep a machine is, the path from a node to the root, entering a node, and the
 -- climb. Fuel for eight levels is enough; after the laws of this file nobody looks at it. Assumes nothing.
-use mathlib.Core.Path.{_≡_, refl, sym, _∙_, ap, subst, subst₂}
+use mathlib.Core.Path.{_≡_, refl, ap, subst, subst₂}
 use mathlib.Core.Logic.{_⊎_, inl, inr, ⊎-elim}
 use mathlib.Core.Bool.{Bool, true, false, cond}
 use mathlib.Core.Option.{Option, none, some}
@@ -8,11 +8,11 @@ use mathlib.Core.List.{List, [], _∷_}
 use Prim.Native.Nat.{ℕ, zero, suc, _+_, _≤_, _<_}
 use native.Mathlib.Omega.{arith}
 use native.Mathlib.Nat.{not-suc-le-zero, le-of-suc-le-suc}
-use Rattle.definitions.specs.Basics.{_>>=_, option, isAt, iterate}
+use Rattle.definitions.specs.Basics.{isAt, iterate}
 use Rattle.definitions.specs.Limits.{levels, commands}
 use Rattle.definitions.specs.Tree.{Tree, Transition, Sound, parent, above, pathF, path}
 use Rattle.definitions.specs.Step.{enterF, enter, counting, leaving, leavingOf, Climb, found, passed, past, firstOf, look, climb}
-use Rattle.definitions.proofs.Options.{bind-some, none-some, some-same, isAt-some, isAt-other, present}
+use Rattle.definitions.proofs.Options.{bind-some, some-same, isAt-some, isAt-other}
 
 -- machine m is k machines below the root
 pub data Deep (t : Tree) : ℕ → ℕ → Type 0 where

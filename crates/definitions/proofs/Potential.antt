@@ -2,24 +2,22 @@
 -- the distance of the lowest node that holds it in an opened machine, plus the costs in their own machines of the nodes below that on
 -- the way down. No command raises the potential by more than it costs. With one machine opened this bounds its exit costs; with the
 -- machines above two states it bounds every list between them. Assumes nothing.
-use mathlib.Core.Path.{_≡_, refl, sym, _∙_, ap, subst}
-use mathlib.Core.Logic.{_⊎_, inl, inr}
+use mathlib.Core.Path.{_≡_, refl, subst}
 use mathlib.Core.Bool.{Bool, true, false}
 use mathlib.Core.Option.{Option, none, some}
 use mathlib.Core.List.{List, [], _∷_}
-use Prim.Native.Nat.{ℕ, zero, suc, _+_, _≤_, _<_}
+use Prim.Native.Nat.{ℕ, _+_, _≤_, _<_}
 use native.Mathlib.Omega.{arith}
 use native.Mathlib.Nat.{zero-add}
-use Rattle.definitions.specs.Basics.{_>>=_, option}
 use Rattle.definitions.specs.Limits.{commands}
 use Rattle.definitions.specs.Tree.{Tree, Transition, Sound, parent}
 use Rattle.definitions.specs.Step.{enter, counting, leaving, Climb, found, passed, past, climb, Arrival, follow, stepIn, runIn}
 use Rattle.definitions.specs.Sheet.{Rows}
-use Rattle.definitions.specs.Truth.{nodeExit, Reached, move}
-use Rattle.definitions.proofs.Options.{bind-some, none-some, some-same, true-false, present}
-use Rattle.definitions.proofs.Path.{Enters, plain, down, enters, enters-enter, enter-enters, enters-state, parent-below, counting-range, counting-owned, climb-own, climb-top, climb-on, climb-found}
-use Rattle.definitions.proofs.Runs.{run-first}
-use Rattle.definitions.proofs.Local.{Relaxed}
+use Rattle.definitions.specs.Truth.{nodeExit}
+use Rattle.definitions.proofs.Options.{bind-some, none-some, some-same, true-false}
+use Rattle.definitions.proofs.Path.{Inside, deeper as deep-in, Enters, plain, down, enter-enters, enters-state, parent-below, counting-owned, climb-own, climb-on, climb-found}
+use Rattle.definitions.proofs.Runs.{run-nil, run-first}
+use Rattle.definitions.proofs.Local.{Relaxed, exit-plain, exit-refined, move-by}
 
 -- no opened machine is below node n
 abbrev pub Shut : Tree → (ℕ → Bool) → ℕ → Type 0
@@ -34,8 +32,9 @@ pub data Lands (t : Tree) (opened : ℕ → Bool) : ℕ → ℕ → Type 0 where
 pub record Frame (t : Tree) (r : Rows) (top : ℕ) (opened : ℕ → Bool) (distance : ℕ → Option ℕ) : Type 0 where
   pub sound : Sound t
   pub top-opened : opened top ≡ true
-  -- a machine below one that is not opened is not opened
-  pub shut-below : (m p : ℕ) → parent t m ≡ some p → opened p ≡ false → opened m ≡ false
+  -- the nodes of opened machines are inside top, and below a machine that is not opened none is
+  pub inside : (n m : ℕ) → t .owner n ≡ some m → opened m ≡ true → Inside t top n
+  pub shut-below : (n m b : ℕ) → Inside t top n → t .owner n ≡ some m → opened m ≡ false → t .below n ≡ some b → opened b ≡ false
   -- rows of machines that are filled are relaxed, and what is below a filled machine is filled
   pub relaxed : (m s : ℕ) → t .start m ≡ some s → r .stale m ≡ false → Relaxed t r m s
   pub filled-below : (m p : ℕ) → parent t m ≡ some p → r .stale p ≡ false → r .stale m ≡ false
@@ -53,13 +52,23 @@ pub data Potential (t : Tree) (r : Rows) (opened : ℕ → Bool) (distance : ℕ
       → Potential t r opened distance h p → Potential t r opened distance n (c + p)
 
 module _ (t : Tree) (r : Rows) (top : ℕ) (opened : ℕ → Bool) (distance : ℕ → Option ℕ) (frame : Frame t r top opened distance) where
+  -- a machine that is not opened is not top
+  not-top : {m : ℕ} → opened m ≡ false → m ≡ top → ⊥
+  not-top shut same = true-false (frame .top-opened) (subst (λ (k : ℕ). opened k ≡ false) same shut)
+
+  -- a node that has a potential is inside top
+  potential-inside : {n p : ℕ} → Potential t r opened distance n p → Inside t top n
+  potential-inside {n} (base {m = m} o op shut d) = frame .inside n m o op
+  potential-inside (deeper o shut full hold c pot) = deep-in o (not-top shut) hold (potential-inside pot)
+
   -- below a node that has a potential nothing is opened and all is filled
   below-potential : {n p b : ℕ} → Potential t r opened distance n p → t .below n ≡ some b → (opened b ≡ false) × (r .stale b ≡ false)
   below-potential {n} {p} {b} (base {m = m} own yes-open shut d) bel =
       (shut b bel, frame .filled n m b own yes-open bel (shut b bel))
-  below-potential {n} {p} {b} (deeper {m = m} own not-open full hold c pot) bel =
-      let up = parent-below (frame .sound) own bel in
-      (frame .shut-below b m up not-open, frame .filled-below b m up full)
+  below-potential {n} {p} {b} (deeper {m = m} own not-open full hold c pot) bel = (
+    frame .shut-below n m b (potential-inside (deeper own not-open full hold c pot)) own not-open bel,
+    frame .filled-below b m (parent-below (frame .sound) own bel) full,
+  )
 
   -- the start node of the machine below a node has that node's potential
   potential-start : {n p b f : ℕ} → Potential t r opened distance n p → t .below n ≡ some b → t .start b ≡ some f
@@ -70,7 +79,7 @@ module _ (t : Tree) (r : Rows) (top : ℕ) (opened : ℕ → Bool) (distance : �
       (deeper (frame .sound .start-owned b f st) shut full (frame .sound .below-held n b bel) (frame .relaxed b f st full .start-cost) pot)
 
   -- entering a node keeps its potential: the start nodes on the way have cost 0
-  potential-enters : {n p e : ℕ} → Potential t r opened distance n p → Enters t n e → Potential t r opened distance e p
+  pub potential-enters : {n p e : ℕ} → Potential t r opened distance n p → Enters t n e → Potential t r opened distance e p
   potential-enters pot (plain b) = pot
   potential-enters pot (down b st en) = potential-enters (potential-start pot b st) en
 
@@ -101,10 +110,9 @@ module _ (t : Tree) (r : Rows) (top : ℕ) (opened : ℕ → Bool) (distance : �
   comes-own : {n m h c p e : ℕ} (x : ℕ) (a : Transition) → t .owner n ≡ some m → opened m ≡ false → r .stale m ≡ false → t .holder m ≡ some h
       → r .cost n ≡ some c → Potential t r opened distance h p → nodeExit t r n x ≡ some e → counting t n x ≡ some a
       → Comes (c + p) e x (found n (a .target) (a .cost))
-  unfolding move
   comes-own {n} {m} {h} {c} {p} {e} x a own not-open full hold cost pot exit has f en =
       let (s, used) = frame .sound .owner-used n m own in
-      let step : move t r n x ≡ some (record { node = a .target; cost = e + a .cost }) = rw (has, exit) in
+      let step = move-by t r n x has exit in
       let (d, reached, small) = frame .relaxed m s used full .moves n c x (record { node = a .target; cost = e + a .cost }) own cost step in
       let there = counting-owned (frame .sound) n x a has own in
       (d + p, potential-enters (deeper there not-open full hold reached pot) en, omega arith)
@@ -125,11 +133,6 @@ module _ (t : Tree) (r : Rows) (top : ℕ) (opened : ℕ → Bool) (distance : �
       (d′, potential-enters (base there op′ (lands-shut lands) dist′) (lands-enters lands en), le)
   comes-base {n} {m} {d} e x own op shut dist exit (passed l) up = (n, m, d, e, l, own, op, dist, exit, up, omega arith)
 
-  -- the exit cost of a node that holds machine m
-  exit-held : {m h d : ℕ} (x : ℕ) → t .holder m ≡ some h → r .exit m x ≡ some d → nodeExit t r h x ≡ some (d + leaving t m)
-  unfolding nodeExit
-  exit-held {m} {h} x hold exit = rw (frame .sound .held-below m h hold, exit)
-
   -- the same of a node of a machine that is not opened, from what comes of the node that holds the machine
   comes-deeper : {n m h c p : ℕ} → t .owner n ≡ some m → opened m ≡ false → r .stale m ≡ false → t .holder m ≡ some h → r .cost n ≡ some c
       → Potential t r opened distance h p → (e x : ℕ) → x < commands → nodeExit t r n x ≡ some e
@@ -139,9 +142,8 @@ module _ (t : Tree) (r : Rows) (top : ℕ) (opened : ℕ → Bool) (distance : �
   comes-deeper {n} {m} {h} {c} {p} own shut full hold cost pot e x range exit up none has =
       let (s, used) = frame .sound .owner-used n m own in
       let (d, out, small) = frame .relaxed m s used full .exits n c x e own cost range has exit in
-      let other : m ≡ top → ⊥ = λ same. true-false (frame .top-opened) (subst (λ (k : ℕ). opened k ≡ false) same shut) in
-      rw (climb-on (frame .sound) top x own other hold has)
-      (comes-past p c e d (leaving t m) x (climb t top h x) small (up (d + leaving t m) (exit-held x hold out)))
+      rw (climb-on (frame .sound) top x own (not-top shut) hold has)
+      (comes-past p c e d (leaving t m) x (climb t top h x) small (up (d + leaving t m) (exit-refined t r h x (frame .sound .held-below m h hold) out)))
 
   -- no command raises the potential by more than it costs
   pub comes : {n p : ℕ} → Potential t r opened distance n p → (e x : ℕ) → x < commands → nodeExit t r n x ≡ some e → Comes p e x (climb t top n x)
@@ -149,14 +151,9 @@ module _ (t : Tree) (r : Rows) (top : ℕ) (opened : ℕ → Bool) (distance : �
   comes {n} (deeper own shut full hold cost pot) e x range exit =
       comes-deeper own shut full hold cost pot e x range exit (λ e′ out. comes pot e′ x range out) (counting t n x) refl
 
-  -- a plain node is left at no cost
-  exit-plain : {n : ℕ} (x : ℕ) → t .below n ≡ none → nodeExit t r n x ≡ some 0
-  unfolding nodeExit
-  exit-plain x b = rw b
-
   -- the state of an arrival has a potential, which is at most p and what the way there cost
   abbrev pub Raised : ℕ → Arrival → Type 0
-  Raised p a = (q : ℕ) × Potential t r opened distance (a .state) q × (t .below (a .state) ≡ none) × (q ≤ p + a .cost)
+  Raised p a = (q : ℕ) × Potential t r opened distance (a .node) q × (t .below (a .node) ≡ none) × (q ≤ p + a .cost)
 
   -- a step from a state with a potential
   raised-follow : {n p : ℕ} → Potential t r opened distance n p → t .below n ≡ none → (x : ℕ) (a : Arrival) (k : Climb) → climb t top n x ≡ k
@@ -164,9 +161,9 @@ module _ (t : Tree) (r : Rows) (top : ℕ) (opened : ℕ → Bool) (distance : �
   raised-follow pot b x a (passed l) up e = absurd (none-some {a = a} refl e)
   raised-follow {n} {p} pot b x a (found u v c) up e =
       let at = climb-found (frame .sound) top n x up in
-      let (s, en, same) = bind-some (enter t v) (λ s. some (record { state = s; cost = c })) e in
+      let (s, en, same) = bind-some (enter t v) (λ s. some (record { node = s; cost = c })) e in
       let way = enter-enters (frame .sound) (at .target-owner) en in
-      let come : Comes p 0 x (found u v c) = subst (Comes p 0 x) up (comes pot 0 x (at .range) (exit-plain x b)) in
+      let come : Comes p 0 x (found u v c) = subst (Comes p 0 x) up (comes pot 0 x (at .range) (exit-plain t r n x b)) in
       let (q, pot′, le) = come s way in
       subst (Raised p) (some-same refl same) (q, pot′, enters-state (frame .sound) way (at .target-owner) .2, omega arith)
 
@@ -176,10 +173,9 @@ module _ (t : Tree) (r : Rows) (top : ℕ) (opened : ℕ → Bool) (distance : �
 
   -- a list of commands from a state with a potential
   pub raised-run : {n p : ℕ} → Potential t r opened distance n p → t .below n ≡ none → (xs : List ℕ) (a : Arrival) → runIn t top n xs ≡ some a → Raised p a
-  unfolding runIn
-  raised-run {n} {p} pot b [] a e = subst (Raised p) (some-same refl e) (p, pot, b, omega arith)
+  raised-run {n} {p} pot b [] a e = subst (Raised p) (some-same (run-nil (stepIn t top) n) e) (p, pot, b, omega arith)
   raised-run {n} {p} pot b (x ∷ xs) a e =
-      let first = run-first t top n x xs e in
+      let first = run-first (stepIn t top) n x xs e in
       let (q₁, pot₁, b₁, le₁) = raised-step pot b x (first .mid) (first .step) in
       let (q₂, pot₂, b₂, le₂) = raised-run pot₁ b₁ xs (first .end) (first .rest) in
       subst (Raised p) (first .joins) (q₂, pot₂, b₂, omega arith)

@@ -20,7 +20,7 @@ use Rattle.definitions.specs.Book.{machineFields, nodeFields, machineBas
 use Rattle.definitions.specs.Book.{word, transitionWord, machineField, nodeField, number, transitionOf, under}
 use Rattle.definitions.specs.Book.{machineWord, nodeWord, treeOf, WellFormed}
 use Rattle.definitions.specs.Sheet.{Rows, machineRowLength, nodeRowLength, nodeRowBase, machineRows, nodeRows, encodeRows}
-use Rattle.definitions.specs.Sheet.{costWord, markWord, machineRow, nodeRow, costOf, machineRowWord, nodeRowWord, rowsOf}
+use Rattle.definitions.specs.Sheet.{costWord, staleWord, machineRow, nodeRow, costOf, machineRowWord, nodeRowWord, rowsOf}
 use Rattle.definitions.proofs.Lists.{table-length, section-at, section-same, no-value, not-both}
 
 -- ---- how long the layouts are
@@ -211,17 +211,17 @@ cost-is limit i w o same inside =
     under-is limit i (costOf w) o (λ h. ap costOf (same h) ∙ cost-word o (λ n e. inside n e .1)) (λ n e. inside n e .0)
 
 -- a mark is read back out of its word
-mark-word : (b : Bool) → eqb (markWord b) 1 ≡ b
-unfolding markWord
+mark-word : (b : Bool) → eqb (staleWord b) 1 ≡ b
+unfolding staleWord
 mark-word true = refl
 mark-word false = refl
 
 -- and under a limit, where it stands below the limit
-pub mark-is : (limit i w : ℕ) (b : Bool) → (i < limit → w ≡ markWord b) → (b ≡ true → i < limit)
+pub mark-is : (limit i w : ℕ) (b : Bool) → (i < limit → w ≡ staleWord b) → (b ≡ true → i < limit)
     → cond (ltb i limit) (eqb w 1) false ≡ b
 mark-is limit i w b same inside = go (ltb i limit) b refl same inside
   where
-    go : (below c : Bool) → ltb i limit ≡ below → (i < limit → w ≡ markWord c) → (c ≡ true → i < limit)
+    go : (below c : Bool) → ltb i limit ≡ below → (i < limit → w ≡ staleWord c) → (c ≡ true → i < limit)
         → cond below (eqb w 1) false ≡ c
     go true c e f g = rw (f (ltb-true i limit e)) (mark-word c)
     go false true e f g = absurd (omega (arith, ltb-false i limit e, g refl))
@@ -352,9 +352,7 @@ treeOf-encode t s =
 
 -- the words of a sound tree are a well-formed book
 pub encode-well-formed : (t : Tree) → Sound t → WellFormed (encode t)
-encode-well-formed t s =
-    let back : treeOf (encode t) ≡ t = treeOf-encode t s in
-    record { sound = rw back s; words = ap encode back }
+encode-well-formed t s = record { length = encode-length t; sound = rw (treeOf-encode t s) s }
 
 -- a well-formed book is the encoding of exactly one tree, the one that its words hold
 pub one-tree : (ws : List ℕ) → WellFormed ws → (t : Tree) → Sound t → encode t ≡ ws → t ≡ treeOf ws
@@ -363,10 +361,6 @@ one-tree ws w t s e = sym (treeOf-encode t s) ∙ ap treeOf e
 -- two sound trees with the same words are one tree
 pub encode-injective : (t u : Tree) → Sound t → Sound u → encode t ≡ encode u → t ≡ u
 encode-injective t u s r e = one-tree (encode u) (encode-well-formed u r) t s e ∙ treeOf-encode u r
-
--- a well-formed book has 4,737 words
-pub well-formed-length : (ws : List ℕ) → WellFormed ws → length ws ≡ bookLength
-well-formed-length ws w = rw (w .words) at (encode-length (treeOf ws))
 
 -- the tree of a list has the words of the list, for every machine
 pub treeOf-machine : (ws : List ℕ) (m k : ℕ) → m < machines → k < machineFields → machineField (treeOf ws) m k ≡ machineWord ws m k
@@ -392,9 +386,9 @@ encode-treeOf ws l =
     sym
     (encode-is ws (treeOf ws) l refl (λ m k hm hk. sym (treeOf-machine ws m k hm hk)) (λ n k hn hk. sym (treeOf-node ws n k hn hk)))
 
--- so a list of 4,737 words whose tree is sound is a well-formed book
-pub sound-well-formed : (ws : List ℕ) → length ws ≡ bookLength → Sound (treeOf ws) → WellFormed ws
-sound-well-formed ws l s = record { sound = s; words = encode-treeOf ws l }
+-- a well-formed book is the encoding of its tree
+pub well-formed-words : (ws : List ℕ) → WellFormed ws → encode (treeOf ws) ≡ ws
+well-formed-words ws w = encode-treeOf ws (w .length)
 
 -- ---- rows are read back out of their words
 
@@ -454,14 +448,14 @@ rowsOf-encodeRows r s =
 -- ---- sheets whose marks are 0 or 1
 
 -- a mark that is 0 or 1 is the word of what it says
-word-mark : (w : ℕ) → (w ≡ 0) ⊎ (w ≡ 1) → markWord (eqb w 1) ≡ w
-unfolding markWord
+word-mark : (w : ℕ) → (w ≡ 0) ⊎ (w ≡ 1) → staleWord (eqb w 1) ≡ w
+unfolding staleWord
 word-mark w (inl e) = rw e
 word-mark w (inr e) = rw e
 
 -- and the word of a mark is 0 or 1
-mark-bit : (b : Bool) → (markWord b ≡ 0) ⊎ (markWord b ≡ 1)
-unfolding markWord
+mark-bit : (b : Bool) → (staleWord b ≡ 0) ⊎ (staleWord b ≡ 1)
+unfolding staleWord
 mark-bit true = inr refl
 mark-bit false = inl refl
 
@@ -506,7 +500,7 @@ pub words-marks : (ws : List ℕ) → encodeRows (rowsOf ws) ≡ ws
 unfolding machineRow
 words-marks ws e = (rw e at (encodeRows-length (rowsOf ws)), mark)
   where
-    same : (m : ℕ) → m < machines → markWord (rowsOf ws .stale m) ≡ machineRowWord ws m 0
+    same : (m : ℕ) → m < machines → staleWord (rowsOf ws .stale m) ≡ machineRowWord ws m 0
     same m hm = sym (machine-row-word (rowsOf ws) m 0 hm (omega arith)) ∙ ap (λ (l : List ℕ). machineRowWord l m 0) e
 
     mark : (m : ℕ) → m < machines → (machineRowWord ws m 0 ≡ 0) ⊎ (machineRowWord ws m 0 ≡ 1)

@@ -1,5 +1,4 @@
 -- Document 01: what a call answers, and refusals in their order.
-use mathlib.Core.Path.{_≡_}
 use mathlib.Core.Logic.{_⊎_}
 use mathlib.Core.List.{List, [], _∷_}
 use Prim.Native.Nat.{ℕ}

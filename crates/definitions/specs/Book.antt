@@ -2,12 +2,12 @@
 use mathlib.Core.Path.{_≡_}
 use mathlib.Core.Bool.{cond}
 use mathlib.Core.Option.{Option, none, some}
-use mathlib.Core.List.{List, [], _∷_, _++_}
+use mathlib.Core.List.{List, _∷_, _++_}
 use Prim.Native.Nat.{ℕ, zero, suc, _+_, _*_, _/_, _%_}
 use lib.Dec.{eqb, ltb}
-use lib.ListN.{getD}
+use lib.ListN.{length, getD}
 use Rattle.definitions.specs.Basics.{tabulate}
-use Rattle.definitions.specs.Limits.{machines, nodes, commands, costs, absent, blank}
+use Rattle.definitions.specs.Limits.{machines, nodes, commands, costs, bookLength, absent, blank}
 use Rattle.definitions.specs.Tree.{Tree, Transition, Sound}
 
 -- the word of a number that may be absent
@@ -15,7 +15,7 @@ unfoldable pub word : Option ℕ → ℕ
 word none = absent
 word (some n) = n
 
--- the word of a transition
+-- the word of a transition (document 01: target × 65,536 + charge)
 unfoldable pub transitionWord : Option Transition → ℕ
 transitionWord none = blank
 transitionWord (some a) = a .target * costs + a .cost
@@ -85,7 +85,7 @@ treeOf ws =
       transition = λ n x. under nodes n (under commands x (transitionOf (nodeWord ws n (2 + x))));
     }
 
--- a book is well formed: its tree is sound, and its words are those of the tree, unused records included
+-- a book is well formed: it has as many words as a book has, and its tree is sound (so unused records are empty)
 pub record WellFormed (ws : List ℕ) : Type 0 where
+  pub length : length ws ≡ bookLength
   pub sound : Sound (treeOf ws)
-  pub words : encode (treeOf ws) ≡ ws

@@ -2,9 +2,9 @@
 use mathlib.Core.Path.{_≡_}
 use mathlib.Core.Logic.{_⊎_}
 use mathlib.Core.Bool.{true}
-use mathlib.Core.Option.{Option, none, some}
+use mathlib.Core.Option.{none, some}
 use mathlib.Core.List.{List, [], _∷_, _++_}
-use Prim.Native.Nat.{ℕ, _-_, _≤_, _<_}
+use Prim.Native.Nat.{ℕ, _-_, _<_}
 use lib.ListN.{length, drop}
 use Rattle.definitions.specs.Basics.{Distinct}
 use Rattle.definitions.specs.Limits.{machines, nodes, commands, bookLength, sheetLength}
@@ -19,15 +19,15 @@ use Rattle.definitions.specs.Open.{openRows}
 use Rattle.definitions.specs.Answer.{Answer, gives, refuses, Refusal, refuse, InOrder}
 
 -- a wrong length
-abbrev pub WrongBook : List ℕ → Type 0
-WrongBook book = length book ≡ bookLength → ⊥
+abbrev pub WrongBookLength : List ℕ → Type 0
+WrongBookLength book = length book ≡ bookLength → ⊥
 
 abbrev pub WrongLength : List ℕ → List ℕ → Type 0
-WrongLength book sheet = WrongBook book ⊎ (length sheet ≡ sheetLength → ⊥)
+WrongLength book sheet = WrongBookLength book ⊎ (length sheet ≡ sheetLength → ⊥)
 
 -- the refusals that calls begin with: 1 (a wrong length), 2 (book not well formed) and, where a sheet is lent, 3 (sheet not true)
 abbrev pub bookRefusals : List ℕ → List Refusal → List Refusal
-bookRefusals book rest = refuse 1 (WrongBook book) ∷ refuse 2 (WellFormed book → ⊥) ∷ rest
+bookRefusals book rest = refuse 1 (WrongBookLength book) ∷ refuse 2 (WellFormed book → ⊥) ∷ rest
 
 abbrev pub sheetRefusals : List ℕ → List ℕ → List Refusal → List Refusal
 sheetRefusals book sheet rest =
@@ -40,7 +40,7 @@ OpenSays t book sheet number book′ sheet′ =
     (λ k. (number ≡ k) × (book′ ≡ book) × (sheet′ ≡ sheet))
     ((number ≡ 0) × (book′ ≡ encode t) × (sheet′ ≡ encodeRows (openRows t)))
 
--- Load: bytes taken, commands taken and 0 or the refusal, and both lists after the call
+-- Load's answer: bytes taken, commands taken and 0 or the refusal
 pub record LoadAnswer : Type 0 where
   pub bytes : ℕ
   pub commands : ℕ
@@ -54,6 +54,7 @@ pub record LoadDone (t : Tree) (r : Rows) (o : Outcome) (answer : LoadAnswer) (b
   pub done : RowsAfterAll t (o .commands) r rows
   pub sheet : sheet′ ≡ encodeRows rows
 
+-- Load: its answer, and both lists after the call
 abbrev pub LoadSays : List ℕ → List ℕ → List ℕ → LoadAnswer → List ℕ → List ℕ → Type 0
 LoadSays book sheet stream answer book′ sheet′ =
     InOrder (sheetRefusals book sheet [])
@@ -85,25 +86,28 @@ StepSays book s x answer =
     ∷ refuse 17 (step (treeOf book) s x ≡ none)
     ∷ []))
     (λ k. answer ≡ refuses k)
-    ((a : Arrival) × (step (treeOf book) s x ≡ some a) × (answer ≡ gives (a .state ∷ a .cost ∷ [])))
+    ((a : Arrival) × (step (treeOf book) s x ≡ some a) × (answer ≡ gives (a .node ∷ a .cost ∷ [])))
 
--- the cheapest list from a to b: it moves the tree there, passes no state twice, and no list that does costs less
+-- a cheapest list from a to b: it moves the station there, passes no state twice, and no list that does costs less
 pub record Plan (t : Tree) (a b cost : ℕ) (list : List ℕ) : Type 0 where
   pub moves : Moves t a b list cost
   pub simple : Distinct (passes t a list)
   pub least : LeastCost t a b (some cost)
+
+-- the refusals that calls between two states share: 6, 7, 14
+abbrev pub stateRefusals : Tree → ℕ → ℕ → List Refusal → List Refusal
+stateRefusals t a b rest =
+    refuse 6 ((a < nodes) × (b < nodes) → ⊥)
+    ∷ refuse 7 ((t .owner a ≡ none) ⊎ (t .owner b ≡ none))
+    ∷ refuse 14 ((t .below a ≡ none) × (t .below b ≡ none) → ⊥)
+    ∷ rest
 
 -- what Plan refuses on a tree and its rows, with room for so many commands: 13 (any machine marked), 6, 7, 14,
 -- 15 (buffer shorter than states less 1), 16 (no way)
 abbrev pub planRefusals : Tree → Rows → ℕ → ℕ → ℕ → List Refusal
 planRefusals t r a b room =
     refuse 13 ((m : ℕ) × (r .stale m ≡ true))
-    ∷ refuse 6 ((a < nodes) × (b < nodes) → ⊥)
-    ∷ refuse 7 ((t .owner a ≡ none) ⊎ (t .owner b ≡ none))
-    ∷ refuse 14 ((t .below a ≡ none) × (t .below b ≡ none) → ⊥)
-    ∷ refuse 15 (room < states t - 1)
-    ∷ refuse 16 (LeastCost t a b none)
-    ∷ []
+    ∷ stateRefusals t a b (refuse 15 (room < states t - 1) ∷ refuse 16 (LeastCost t a b none) ∷ [])
 
 -- Plan: cost and count, and the commands at the front of the plan buffer, later bytes untouched
 abbrev pub PlanSays : List ℕ → List ℕ → ℕ → ℕ → List ℕ → Answer → List ℕ → Type 0

@@ -5,9 +5,9 @@ use mathlib.Core.List.{List}
 use Prim.Native.Nat.{ℕ, _+_}
 use Rattle.definitions.specs.Basics.{_>>=_, Least}
 use Rattle.definitions.specs.Tree.{Tree}
-use Rattle.definitions.specs.Step.{Climb, found, passed, climb, Arrival, startState, runIn, Moves}
+use Rattle.definitions.specs.Step.{Climb, found, passed, climb, startState, runIn, Moves}
 
--- the least cost of a list that moves the tree from a to b; none where no list does (document 01: no way)
+-- the least cost of a list that moves the station from a to b; none where no list does (document 01: no way)
 abbrev pub LeastCost : Tree → ℕ → ℕ → Option ℕ → Type 0
 LeastCost t a b = Least (λ c. (xs : List ℕ) × Moves t a b xs c)
 
@@ -19,7 +19,7 @@ unfound c (passed d) = some (c + d)
 -- the cost, the last command not counted, of the list xs and then x from m's start state: the commands of xs all use
 -- transitions in m or below it, and x finds none there; none where the list is not so
 unfoldable pub exitBy : Tree → ℕ → ℕ → List ℕ → Option ℕ
-exitBy t m x xs = startState t m >>= λ s. runIn t m s xs >>= λ a. unfound (a .cost) (climb t m (a .state) x)
+exitBy t m x xs = startState t m >>= λ s. runIn t m s xs >>= λ a. unfound (a .cost) (climb t m (a .node) x)
 
 -- the exit cost of machine m for x (document 01: exit charge); none where no list leaves
 abbrev pub ExitCost : Tree → ℕ → ℕ → Option ℕ → Type 0

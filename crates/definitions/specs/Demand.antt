@@ -1,25 +1,24 @@
 -- The customer's demands 2 (its last clause) and 3, each as one statement.
 use mathlib.Core.Path.{_≡_}
 use mathlib.Core.Logic.{_⊎_}
-use mathlib.Core.Bool.{Bool, true, false}
+use mathlib.Core.Bool.{true}
 use mathlib.Core.List.{List, [], _∷_, _++_}
-use Prim.Native.Nat.{ℕ, _≤_, _<_}
+use Prim.Native.Nat.{ℕ, _-_, _≤_, _<_}
 use lib.ListN.{length, take}
 use Rattle.definitions.specs.Basics.{All, Distinct}
-use Rattle.definitions.specs.Limits.{planBuffer}
-use Rattle.definitions.specs.Tree.{Tree, isState, usedMachine}
+use Rattle.definitions.specs.Limits.{planBuffer, largestPlanCost, longestStream}
+use Rattle.definitions.specs.Tree.{Tree, Sound, isState, states}
 use Rattle.definitions.specs.Step.{Moves, passes}
-use Rattle.definitions.specs.Costs.{LeastCost}
 use Rattle.definitions.specs.Book.{WellFormed, treeOf}
-use Rattle.definitions.specs.Sheet.{rowsOf}
+use Rattle.definitions.specs.Sheet.{encodeRows}
 use Rattle.definitions.specs.Truth.{TrueSheet}
 use Rattle.definitions.specs.Load.{expected}
-use Rattle.definitions.specs.Open.{Opening, openTree}
+use Rattle.definitions.specs.Open.{Opening, openTree, openRows}
 use Rattle.definitions.specs.Answer.{Answer, gives, refuses}
-use Rattle.definitions.specs.Calls.{OpenSays, LoadAnswer, LoadSays, PlanSays}
-use Rattle.definitions.specs.Write.{written}
+use Rattle.definitions.specs.Calls.{OpenSays, LoadAnswer, LoadSays, Plan, PlanSays}
+use Rattle.definitions.specs.Write.{written, WriteSays}
 
--- the elements of a byte string
+-- every element is a byte
 abbrev pub Bytes : List ℕ → Type 0
 Bytes = All (λ b. b < 256)
 
@@ -34,8 +33,8 @@ pub data Loads : List ℕ → List ℕ → List (List ℕ) → List ℕ → List
 abbrev pub refreshAlone : List ℕ
 refreshAlone = 0x18 ∷ []
 
--- a plan from a to b of this tree, read off the front of the buffer: it moves the tree from a to b, passes no state twice, its
--- cost is the stated one, and every list that moves the tree from a to b costs at least as much
+-- a plan from a to b of this tree, read off the front of the buffer: it moves the station from a to b, passes no state twice, its
+-- cost is the stated one, and every list that moves the station from a to b costs at least as much
 pub record GoodPlan (t : Tree) (a b : ℕ) (answer : Answer) (buffer : List ℕ) : Type 0 where
   pub cost : ℕ
   pub count : ℕ
@@ -45,7 +44,7 @@ pub record GoodPlan (t : Tree) (a b : ℕ) (answer : Answer) (buffer : List ℕ)
   pub simple : Distinct (passes t a (take count buffer))
   pub least : (xs : List ℕ) (c : ℕ) → Moves t a b xs c → cost ≤ c
 
--- "no way": the refusal 16, and no list of commands moves the tree from a to b
+-- "no way": the refusal 16, and no list of commands moves the station from a to b
 pub record NoWay (t : Tree) (a b : ℕ) (answer : Answer) : Type 0 where
   pub stated : answer ≡ refuses 16
   pub stuck : (xs : List ℕ) (c : ℕ) → Moves t a b xs c → ⊥
@@ -63,11 +62,20 @@ Demand3 =
     → (buffer : List ℕ) → length buffer ≡ planBuffer → (answer : Answer) (buffer′ : List ℕ) → PlanSays book sheet a b buffer answer buffer′
     → GoodPlan (expected (openTree opening) streams) a b answer buffer′ ⊎ NoWay (expected (openTree opening) streams) a b answer
 
--- Demand 2, its last clause: the stream that is written for a well-formed book, loaded into any holding whose book is well
--- formed and sheet true, is taken whole and leaves the same book, every machine in use marked
+-- Demand 2, its last clause: the stream that Write gives for a book, loaded into any holding whose book is well formed and sheet true,
+-- is taken whole and leaves the same book, every machine in use marked and all blank
 abbrev pub SameBook : Type 0
 SameBook =
-    (book other sheet book′ sheet′ : List ℕ) (answer : LoadAnswer) → WellFormed book → WellFormed other
-    → TrueSheet (treeOf other) sheet → LoadSays other sheet (written (treeOf book)) answer book′ sheet′
-    → (answer .bytes ≡ length (written (treeOf book))) × (answer .number ≡ 0) × (book′ ≡ book)
-    × ((m : ℕ) → rowsOf sheet′ .stale m ≡ usedMachine (treeOf book) m)
+    (book out out′ other sheet book′ sheet′ : List ℕ) (size : ℕ) (answer : LoadAnswer) → WriteSays book out (gives (size ∷ [])) out′
+    → WellFormed other → TrueSheet (treeOf other) sheet → LoadSays other sheet (take size out′) answer book′ sheet′
+    → (answer .bytes ≡ size) × (answer .number ≡ 0) × (book′ ≡ book) × (sheet′ ≡ encodeRows (openRows (treeOf book)))
+
+-- a plan has at most the number of states less 1 commands and costs at most 255 × 65,535
+abbrev pub PlanBounds : Type 0
+PlanBounds =
+    (t : Tree) → Sound t → (a b cost : ℕ) (list : List ℕ) → isState t a ≡ true → Plan t a b cost list
+    → (length list ≤ states t - 1) × (cost ≤ largestPlanCost)
+
+-- Write's stream has at most 33,918 bytes
+abbrev pub WriteBound : Type 0
+WriteBound = (t : Tree) → Sound t → length (written t) ≤ longestStream

@@ -41,7 +41,7 @@ isStart t n = option false (λ m. isAt (t .start m) n) (t .owner n)
 abbrev pub apart : Tree → ℕ → ℕ → Bool
 apart t n v = option true (λ m. not (isAt (t .owner v) m)) (t .owner n)
 
--- whether a node stands at the lowest level that may be, and whether any node does
+-- whether a node in use stands at the lowest level that may be
 abbrev pub lowest : Tree → ℕ → Bool
 lowest t n = usedNode t n && eqb (level t n) levels
 
@@ -119,7 +119,8 @@ withStart t n =
       transition = t .transition;
     }
 
--- the tree after an edit that is taken
+-- The tree after an edit that is taken. A number that is not in use holds nothing, has no transitions and owns no node (Sound), so a
+-- new node has no transitions and, but for crown's, is plain, and a new machine has only its start node.
 unfoldable pub edited : Tree → Edit → Tree
 edited t (begin m n) = single m n
 edited t (add m n) =
@@ -170,9 +171,9 @@ touches t (clear n x) p = over t p n
 touches t (start n) p = over t p n
 touches t (crown m n) p = eqb p m
 
--- the rows where the machines in use that pass the test are marked and blanked; unused ones have mark 0 and are blank
-unfoldable pub marked : Tree → (ℕ → Bool) → Rows → Rows
-marked t touched r =
+-- the rows where the machines in use that pass the test are marked and blanked, and unused machines and nodes are blank, mark 0
+unfoldable pub withStale : Tree → (ℕ → Bool) → Rows → Rows
+withStale t touched r =
     record {
       stale = λ m. usedMachine t m && (touched m || r .stale m);
       exit = λ m x. unless (not (usedMachine t m) || touched m) (r .exit m x);
@@ -184,7 +185,7 @@ marked t touched r =
 
 -- the rows after an edit
 unfoldable pub editedRows : Tree → Edit → Rows → Rows
-editedRows t e r = marked (edited t e) (touches t e) r
+editedRows t e r = withStale (edited t e) (touches t e) r
 
 -- a refresh: every stale row is filled and no longer stale, and no other row is touched
 pub record Refreshed (t : Tree) (r after : Rows) : Type 0 where

@@ -45,6 +45,10 @@ largestCost = 65535
 abbrev pub largestPlanCost : ℕ
 largestPlanCost = 255 * largestCost
 
+-- the longest stream that Write gives
+abbrev pub longestStream : ℕ
+longestStream = 33918
+
 -- how many commands of a lent list Choose looks at, and how many bytes of its input the session reads
 abbrev pub longestList : ℕ
 longestList = 65536

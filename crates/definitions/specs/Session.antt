@@ -1,6 +1,6 @@
 -- Document 01, "Writing, choosing, the session": the lines that the session program prints.
 use mathlib.Core.Path.{_≡_}
-use mathlib.Core.Bool.{Bool, true, false, cond}
+use mathlib.Core.Bool.{cond}
 use mathlib.Core.List.{List, [], _∷_, _++_}
 use Prim.Native.Nat.{ℕ, zero, suc, _+_, _/_, _%_}
 use lib.Dec.{eqb, ltb, leb}
@@ -20,10 +20,11 @@ unfoldable pub digits : ℕ → ℕ → List ℕ
 digits zero n = []
 digits (suc k) n = cond (ltb n 10) ((48 + n) ∷ []) (digits k (n / 10) ++ ((48 + n % 10) ∷ []))
 
--- a number in decimal, after a space, and the numbers of a list so; 20 digits hold every number that is printed
+-- a number in decimal; 20 digits hold every number that is printed
 abbrev pub decimal : ℕ → List ℕ
 decimal n = digits 20 n
 
+-- each number after a space, then a newline
 unfoldable pub spaced : List ℕ → List ℕ
 spaced [] = 10 ∷ []
 spaced (n ∷ ns) = 32 ∷ (decimal n ++ spaced ns)
@@ -57,7 +58,8 @@ unfoldable pub request : Tree → List ℕ → Request
 request t [] = stream ended
 request t (op ∷ rest) = cond (eqb op 0x19) (readPlan rest) (stream (next t (op ∷ rest)))
 
--- the line for a plan from a to b on this tree and rows: Plan's answer with room for 255 commands
+-- the line for a plan from a to b on this tree and rows: Plan's answer with room for 255 commands (the session's own book and sheet
+-- are well formed and true)
 abbrev pub PlanPrints : Tree → Rows → ℕ → ℕ → List ℕ → Type 0
 PlanPrints t r a b line =
     InOrder (planRefusals t r a b planBuffer)

@@ -1,5 +1,4 @@
 -- Document 01, "Book and sheet in memory": the 2,880 words of a sheet.
-use mathlib.Core.Path.{_≡_}
 use mathlib.Core.Bool.{Bool, true, false, cond}
 use mathlib.Core.Option.{Option, none, some}
 use mathlib.Core.List.{List, _++_}
@@ -27,13 +26,14 @@ unfoldable pub costWord : Option ℕ → ℕ
 costWord none = blank
 costWord (some c) = c
 
-unfoldable pub markWord : Bool → ℕ
-markWord true = 1
-markWord false = 0
+-- the word of a mark
+unfoldable pub staleWord : Bool → ℕ
+staleWord true = 1
+staleWord false = 0
 
 -- the words of one machine, by their place: mark, exit costs, last nodes
 unfoldable pub machineRow : Rows → ℕ → ℕ → ℕ
-machineRow r m zero = markWord (r .stale m)
+machineRow r m zero = staleWord (r .stale m)
 machineRow r m (suc i) = cond (ltb i commands) (costWord (r .exit m i)) (word (r .last m (i - commands)))
 
 -- the words of one node, by their place: cost, node before, command before

@@ -1,7 +1,7 @@
 -- Document 01, "The tree and its step": entering a node, the step and its cost, and what a list of commands does.
 -- (Definition 3 of sources 000 and 001, as document 01 fixes it.)
 use mathlib.Core.Path.{_≡_}
-use mathlib.Core.Bool.{Bool, true, false, cond}
+use mathlib.Core.Bool.{cond}
 use mathlib.Core.Option.{Option, none, some}
 use mathlib.Core.List.{List, [], _∷_}
 use Prim.Native.Nat.{ℕ, zero, suc, _+_}
@@ -33,7 +33,8 @@ leaving t m = 0
 abbrev pub leavingOf : Tree → ℕ → ℕ
 leavingOf t n = option 0 (leaving t) (t .owner n)
 
--- Where a command finds a transition: at this node, with this target and cost. Or it finds none, and has left machines at this cost.
+-- Where a command finds a transition: at this node, with this target, at this cost, leaving included. Or it finds none up to machine
+-- top, and leaving the machines below top cost this.
 pub data Climb : Type 0 where
   found : (node target cost : ℕ) → Climb
   passed : (cost : ℕ) → Climb
@@ -58,14 +59,19 @@ look t top x (n ∷ up) =
 unfoldable pub climb : Tree → ℕ → ℕ → ℕ → Climb
 climb t top n x = look t top x (path t n)
 
--- a state, and what it cost to come there
+-- a node, and what it cost to come there
 pub record Arrival : Type 0 where
-  pub state : ℕ
+  pub node : ℕ
   pub cost : ℕ
 
--- the target is entered; where nothing was found the tree stops
+-- a list of commands, each done from where the one before arrived; none where one of them leads nowhere
+unfoldable pub runBy : (ℕ → ℕ → Option Arrival) → ℕ → List ℕ → Option Arrival
+runBy f n [] = some (record { node = n; cost = 0 })
+runBy f n (x ∷ xs) = f n x >>= λ a. runBy f (a .node) xs >>= λ b. some (record { node = b .node; cost = a .cost + b .cost })
+
+-- the target is entered; where nothing was found the station stops
 abbrev pub follow : Tree → Climb → Option Arrival
-follow t (found n v c) = enter t v >>= λ s. some (record { state = s; cost = c })
+follow t (found n v c) = enter t v >>= λ s. some (record { node = s; cost = c })
 follow t (passed c) = none
 
 -- what a command does at a state if only transitions in machine top or below it are used; none where it finds none there
@@ -73,24 +79,22 @@ unfoldable pub stepIn : Tree → ℕ → ℕ → ℕ → Option Arrival
 stepIn t top s x = follow t (climb t top s x)
 
 -- what a command does at a state (document 01: the step and its charge); none where the station stops
-unfoldable pub step : Tree → ℕ → ℕ → Option Arrival
-step t s x = stepIn t (t .root) s x
+abbrev pub step : Tree → ℕ → ℕ → Option Arrival
+step t = stepIn t (t .root)
 
--- where a list of commands leads and what it costs, with transitions in machine top or below it; none where a command finds none
-unfoldable pub runIn : Tree → ℕ → ℕ → List ℕ → Option Arrival
-runIn t top s [] = some (record { state = s; cost = 0 })
-runIn t top s (x ∷ xs) =
-    stepIn t top s x >>= λ a. runIn t top (a .state) xs >>= λ b. some (record { state = b .state; cost = a .cost + b .cost })
+-- where a list of commands leads and what it costs, with transitions in machine top or below it
+abbrev pub runIn : Tree → ℕ → ℕ → List ℕ → Option Arrival
+runIn t top = runBy (stepIn t top)
 
--- where a list of commands moves the tree and its cost; none where a command stops it
-unfoldable pub run : Tree → ℕ → List ℕ → Option Arrival
-run t s xs = runIn t (t .root) s xs
+-- where a list of commands moves the station and its cost; none where a command stops it
+abbrev pub run : Tree → ℕ → List ℕ → Option Arrival
+run t = runBy (step t)
 
--- the list moves the tree from a to b at this cost (document 01: moves)
+-- the list moves the station from a to b at this cost (document 01: moves)
 abbrev pub Moves : Tree → ℕ → ℕ → List ℕ → ℕ → Type 0
-Moves t a b xs c = run t a xs ≡ some (record { state = b; cost = c })
+Moves t a b xs c = run t a xs ≡ some (record { node = b; cost = c })
 
 -- the states that a list passes: the one where it begins and each that a command leads to
 unfoldable pub passes : Tree → ℕ → List ℕ → List ℕ
 passes t s [] = s ∷ []
-passes t s (x ∷ xs) = s ∷ option [] (λ a. passes t (a .state) xs) (step t s x)
+passes t s (x ∷ xs) = s ∷ option [] (λ a. passes t (a .node) xs) (step t s x)

@@ -1,5 +1,5 @@
 -- Document 01, "Loading a stream": opcodes, operands, and the reading of a stream's next command.
-use mathlib.Core.Bool.{Bool, true, false, cond}
+use mathlib.Core.Bool.{cond}
 use mathlib.Core.Option.{Option, none, some}
 use mathlib.Core.List.{List, [], _∷_}
 use Prim.Native.Nat.{ℕ, suc, _+_, _*_}
@@ -43,7 +43,7 @@ byteAt bytes i = getD bytes i 0
 abbrev pub pairAt : List ℕ → ℕ → ℕ
 pairAt bytes i = byteAt bytes i * 256 + byteAt bytes (suc i)
 
--- the command of a known opcode and the bytes after it: nodes and costs take two bytes, machines and commands one
+-- the command of a known opcode and the bytes after it: nodes and costs take two bytes, machines and commands one; 0x18 is left
 unfoldable pub decode : ℕ → List ℕ → Command
 decode op bytes =
     cond (eqb op 0x10) (edit (begin (byteAt bytes 0) (pairAt bytes 1)))

@@ -1,9 +1,9 @@
 -- Document 01, "The tree and its step": the tree of machines, and when it is one. No word of memory stands here.
 use mathlib.Core.Path.{_≡_}
-use mathlib.Core.Bool.{Bool, true, false, not, _&&_}
+use mathlib.Core.Bool.{Bool, not, _&&_}
 use mathlib.Core.Option.{Option, none, some}
 use mathlib.Core.List.{List, [], _∷_}
-use Prim.Native.Nat.{ℕ, zero, suc, _≤_, _<_}
+use Prim.Native.Nat.{ℕ, zero, suc, _<_}
 use lib.Dec.{eqb}
 use lib.ListN.{length}
 use Rattle.definitions.specs.Basics.{_>>=_, option, isSome, isAt, iterate, countBelow, anyOf}
@@ -83,12 +83,12 @@ pub record Sound (t : Tree) : Type 0 where
   -- a node belongs to a machine in use, and a start node to its machine
   pub owner-used : (n m : ℕ) → t .owner n ≡ some m → (s : ℕ) × (t .start m ≡ some s)
   pub start-owned : (m s : ℕ) → t .start m ≡ some s → t .owner s ≡ some m
-  -- holder and held name each other, and both are in use
+  -- holder and held name each other and are in use: an unused node holds nothing, an unused machine has no holder
   pub below-held : (n m : ℕ) → t .below n ≡ some m → t .holder m ≡ some n
   pub held-below : (m n : ℕ) → t .holder m ≡ some n → t .below n ≡ some m
   pub holder-used : (m n : ℕ) → t .holder m ≡ some n → (p : ℕ) × (t .owner n ≡ some p)
   pub held-used : (m n : ℕ) → t .holder m ≡ some n → (s : ℕ) × (t .start m ≡ some s)
-  -- transitions are for commands, cost less than 65,536, and stay in the machine of their node
+  -- transitions are for commands, cost less than 65,536, and stay in the machine of their node; an unused node has none
   pub transition-range : (n x : ℕ) (a : Transition) → t .transition n x ≡ some a → (x < commands) × (a .cost < costs)
   pub transition-owned : (n x : ℕ) (a : Transition) → t .transition n x ≡ some a
       → (m : ℕ) × (t .owner n ≡ some m) × (t .owner (a .target) ≡ some m)

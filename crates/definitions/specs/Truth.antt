@@ -1,39 +1,36 @@
 -- Document 01, "Book and sheet in memory": when a sheet is true.
 use mathlib.Core.Path.{_≡_}
+use mathlib.Core.Logic.{_⊎_}
 use mathlib.Core.Bool.{true, false}
 use mathlib.Core.Option.{Option, none, some}
 use mathlib.Core.List.{List, [], _∷_}
 use Prim.Native.Nat.{ℕ, _+_, _≤_, _<_}
+use lib.ListN.{length}
 use Rattle.definitions.specs.Basics.{_>>=_, option, iterate, Least}
-use Rattle.definitions.specs.Limits.{commands, longestChain}
-use Rattle.definitions.specs.Tree.{Tree, Transition, parent}
-use Rattle.definitions.specs.Step.{counting, leaving}
+use Rattle.definitions.specs.Limits.{machines, commands, sheetLength, longestChain}
+use Rattle.definitions.specs.Tree.{Tree, parent}
+use Rattle.definitions.specs.Step.{counting, leaving, Arrival, runBy}
 use Rattle.definitions.specs.Costs.{ExitCost}
-use Rattle.definitions.specs.Sheet.{Rows, rowsOf, encodeRows}
+use Rattle.definitions.specs.Sheet.{Rows, machineRowWord, rowsOf}
 
--- a node's own exit cost for a command: 0 for a plain node, and for a refined one that of the machine below it
+-- a node's own exit cost for a command, by the rows: 0 for a plain node, and for a refined one that of the machine below it. (Below a
+-- machine that is not stale none is, so these exit costs are true ones.)
 unfoldable pub nodeExit : Tree → Rows → ℕ → ℕ → Option ℕ
 nodeExit t r n x = option (some 0) (λ m. r .exit m x >>= λ e. some (e + leaving t m)) (t .below n)
 
--- where a move leads, or a list of moves, and its cost
-pub record Reached : Type 0 where
-  pub node : ℕ
-  pub cost : ℕ
-
 -- a move inside a machine by the transition of node n for x: the exit cost of the node left plus the transition's
-unfoldable pub move : Tree → Rows → ℕ → ℕ → Option Reached
+unfoldable pub move : Tree → Rows → ℕ → ℕ → Option Arrival
 move t r n x = counting t n x >>= λ a. nodeExit t r n x >>= λ e. some (record { node = a .target; cost = e + a .cost })
 
 -- a list of moves inside a machine
-unfoldable pub walk : Tree → Rows → ℕ → List ℕ → Option Reached
-walk t r n [] = some (record { node = n; cost = 0 })
-walk t r n (x ∷ xs) = move t r n x >>= λ a. walk t r (a .node) xs >>= λ b. some (record { node = b .node; cost = a .cost + b .cost })
+abbrev pub walk : Tree → Rows → ℕ → List ℕ → Option Arrival
+walk t r = runBy (move t r)
 
 -- the least cost for reaching node n from node s inside their machine; none where no list of moves reaches it
 abbrev pub LeastWalk : Tree → Rows → ℕ → ℕ → Option ℕ → Type 0
 LeastWalk t r s n = Least (λ c. (xs : List ℕ) × (walk t r s xs ≡ some (record { node = n; cost = c })))
 
--- nothing stands in the row of a machine, of a node
+-- nothing stands in the row of a machine, its mark aside, and in that of a node
 pub record BlankMachine (r : Rows) (m : ℕ) : Type 0 where
   pub exit : (x : ℕ) → x < commands → r .exit m x ≡ none
   pub last : (x : ℕ) → x < commands → r .last m x ≡ none
@@ -82,20 +79,24 @@ pub record TrueMachine (t : Tree) (r : Rows) (m s : ℕ) : Type 0 where
   pub ended : (x c : ℕ) → x < commands → r .exit m x ≡ some c → Ended t r m x c
   pub no-exit : (x : ℕ) → x < commands → r .exit m x ≡ none → r .last m x ≡ none
 
--- the rows are true of the tree (document 01: a sheet is true)
-pub record TrueRows (t : Tree) (r : Rows) : Type 0 where
-  -- the blank rule: rows of unused machines and nodes, and of stale machines and their nodes; unused marks are 0
-  pub unused-mark : (m : ℕ) → t .start m ≡ none → r .stale m ≡ false
+-- the blank rule: rows of unused machines and nodes, and of stale machines and their nodes, are blank; unused marks are 0
+pub record BlankRule (t : Tree) (r : Rows) : Type 0 where
+  pub unused-stale : (m : ℕ) → t .start m ≡ none → r .stale m ≡ false
   pub unused-machine : (m : ℕ) → t .start m ≡ none → BlankMachine r m
   pub unused-node : (n : ℕ) → t .owner n ≡ none → BlankNode r n
   pub stale-machine : (m : ℕ) → r .stale m ≡ true → BlankMachine r m
   pub stale-node : (n m : ℕ) → t .owner n ≡ some m → r .stale m ≡ true → BlankNode r n
+
+-- the rows are true of the tree (document 01: a sheet is true)
+pub record TrueRows (t : Tree) (r : Rows) : Type 0 where
+  pub blanks : BlankRule t r
   -- no machine that is not stale has a stale one below it: the machine above a stale one is stale, and so on up
   pub stale-above : (m p : ℕ) → r .stale m ≡ true → parent t m ≡ some p → r .stale p ≡ true
   -- every other machine's row is true
   pub filled : (m s : ℕ) → t .start m ≡ some s → r .stale m ≡ false → TrueMachine t r m s
 
--- a sheet is true of a tree: its rows are, and its marks are 0 or 1
+-- a sheet is true of a tree: it has as many words as a sheet has, every mark is 0 or 1, and its rows are true
 pub record TrueSheet (t : Tree) (ws : List ℕ) : Type 0 where
+  pub length : length ws ≡ sheetLength
+  pub marks : (m : ℕ) → m < machines → (machineRowWord ws m 0 ≡ 0) ⊎ (machineRowWord ws m 0 ≡ 1)
   pub rows : TrueRows t (rowsOf ws)
-  pub words : encodeRows (rowsOf ws) ≡ ws

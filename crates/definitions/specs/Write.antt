@@ -1,12 +1,11 @@
 -- Document 01, "Writing, choosing, the session": the one stream that Write gives for a tree.
 use mathlib.Core.Path.{_≡_}
-use mathlib.Core.Bool.{Bool, true, false, cond, not, _&&_}
-use mathlib.Core.Option.{Option, none, some}
+use mathlib.Core.Bool.{cond, not, _&&_}
 use mathlib.Core.List.{List, [], _∷_, _++_}
 use Prim.Native.Nat.{ℕ, suc, _/_, _%_, _<_}
 use lib.Dec.{eqb}
 use lib.ListN.{length, drop}
-use Rattle.definitions.specs.Basics.{_>>=_, option, joined}
+use Rattle.definitions.specs.Basics.{option, joined}
 use Rattle.definitions.specs.Limits.{nodes, commands, levels}
 use Rattle.definitions.specs.Tree.{Tree, level}
 use Rattle.definitions.specs.Edit.{isStart}

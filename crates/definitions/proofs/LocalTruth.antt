@@ -1,0 +1,240 @@
+-- A sheet's rows are true exactly where they are so machine by machine: the conditions that can be tested, and document 01's, which
+-- speak of all lists. Assumes nothing.
+use mathlib.Core.Path.{_≡_, refl, sym, _∙_, ap, subst}
+use mathlib.Core.Logic.{⊎-elim}
+use mathlib.Core.Bool.{Bool, true, false}
+use mathlib.Core.Option.{Option, none, some}
+use mathlib.Core.List.{List, [], _∷_, _++_}
+use Prim.Native.Nat.{ℕ, _+_, _≤_, _<_}
+use native.Mathlib.Omega.{arith}
+use lib.Dec.{eqb}
+use borrow.Author.Tests.{eq-eqb, ne-eqb, eqb-true}
+use Rattle.definitions.specs.Basics.{Least}
+use Rattle.definitions.specs.Limits.{commands}
+use Rattle.definitions.specs.Tree.{Tree, Transition, Sound, parent}
+use Rattle.definitions.specs.Step.{counting, found, passed, climb, Arrival}
+use Rattle.definitions.specs.Costs.{ExitCost}
+use Rattle.definitions.specs.Sheet.{Rows}
+use Rattle.definitions.specs.Truth.{nodeExit, move, walk, LeastWalk, TrueMachine, TrueRows}
+use Rattle.definitions.proofs.Options.{none-some, some-same, true-false, decided}
+use Rattle.definitions.proofs.Path.{parent-below, enters, enters-state, Inside, own, counting-owned, climb-own, climb-top, passed-found}
+use Rattle.definitions.proofs.Runs.{run-nil, run-first, run-cons, run-join}
+use Rattle.definitions.proofs.Inside.{inside-apart}
+use Rattle.definitions.proofs.Local.{Relaxed, Attained, LocalRows, exit-plain, move-by, move-parts}
+use Rattle.definitions.proofs.Potential.{Shut, Lands, here, Frame, Potential, base, Comes, comes, potential-enters, raised-run}
+use Rattle.definitions.proofs.Exits.{exit-parts, start-enters}
+use Rattle.definitions.proofs.Realize.{along-names, Had, had, had-at}
+
+-- below a filled machine every machine is filled
+pub filled-below : (t : Tree) (r : Rows) → ((m p : ℕ) → r .stale m ≡ true → parent t m ≡ some p → r .stale p ≡ true)
+    → (m p : ℕ) → parent t m ≡ some p → r .stale p ≡ false → r .stale m ≡ false
+filled-below t r up m p above full = ⊎-elim (λ stale. absurd (true-false (up m p stale above) full)) (λ e. e) (decided (r .stale m))
+
+-- the moves of a machine stay in it
+move-owned : {t : Tree} → Sound t → (r : Rows) (n x : ℕ) {m : ℕ} {b : Arrival} → t .owner n ≡ some m → move t r n x ≡ some b → t .owner (b .node) ≡ some m
+move-owned {t} s r n x {m} own-n e =
+    let parts = move-parts t r n x e in
+    subst (λ (v : ℕ). t .owner v ≡ some m) (parts .target) (counting-owned s n x (parts .transition) (parts .has) own-n)
+
+-- ---- the costs of nodes
+
+-- in a relaxed row no list of moves is cheaper than what stands there
+relaxed-walk : {t : Tree} → Sound t → (r : Rows) {m f : ℕ} → Relaxed t r m f → {n : ℕ} (c : ℕ) (xs : List ℕ) {b : Arrival} → t .owner n ≡ some m
+    → r .cost n ≡ some c → walk t r n xs ≡ some b → (d : ℕ) × (r .cost (b .node) ≡ some d) × (d ≤ c + b .cost)
+relaxed-walk {t} s r row {n} c [] {b} own-n cost e =
+    subst (λ (z : Arrival). (d : ℕ) × (r .cost (z .node) ≡ some d) × (d ≤ c + z .cost)) (some-same (run-nil (move t r) n) e) (c, cost, omega arith)
+relaxed-walk {t} s r row {n} c (x ∷ xs) own-n cost e =
+    let first = run-first (move t r) n x xs e in
+    let (d₁, cost₁, le₁) = row .moves n c x (first .mid) own-n cost (first .step) in
+    let (d₂, cost₂, le₂) = relaxed-walk s r row d₁ xs (move-owned s r n x own-n (first .step)) cost₁ (first .rest) in
+    subst (λ (z : Arrival). (d : ℕ) × (r .cost (z .node) ≡ some d) × (d ≤ c + z .cost)) (first .joins) (d₂, cost₂, omega arith)
+
+-- one move more
+walk-on : (t : Tree) (r : Rows) (n x : ℕ) (xs : List ℕ) {u v c d : ℕ} → walk t r n xs ≡ some (record { node = u; cost = c })
+    → move t r u x ≡ some (record { node = v; cost = d }) → walk t r n (xs ++ (x ∷ [])) ≡ some (record { node = v; cost = c + d })
+walk-on t r n x xs {u} {v} {c} {d} way step =
+    run-join (move t r) n xs (x ∷ []) way (run-cons (move t r) u x [] step (run-nil (move t r) v))
+    ∙ ap (λ (k : ℕ). some (record { node = v; cost = k })) (omega arith)
+
+-- what a row's names lead to is a list of moves
+abbrev Walked : Tree → Rows → ℕ → ℕ → ℕ → Type 0
+Walked t r f n c = (xs : List ℕ) × (walk t r f xs ≡ some (record { node = n; cost = c }))
+
+attained-walk : (t : Tree) (r : Rows) {m f : ℕ} → Attained t r m f → (n c : ℕ) → t .owner n ≡ some m → r .cost n ≡ some c → Walked t r f n c
+attained-walk t r {m} {f} row n c own-n cost =
+    let (k, short, way) = row .chain n c own-n cost in
+    along-names (r .before) (λ u. t .owner u ≡ some m → (d : ℕ) → r .cost u ≡ some d → Walked t r f u d)
+    (λ own-f d cost-f. subst (Walked t r f f) (some-same (row .start-cost) cost-f) ([], run-nil (move t r) f))
+    (λ v u before reach own-v d cost-v.
+    let name = row .named v d own-v (λ same. none-some (row .start-before) (subst (λ (w : ℕ). r .before w ≡ some u) same before)) cost-v in
+    let same-node : u ≡ name .node = some-same before (name .before) in
+    let (xs, led) =
+    subst (λ (w : ℕ). (t .owner w ≡ some m → (d : ℕ) → r .cost w ≡ some d → Walked t r f w d)) same-node reach (name .owned) (name .node-cost) (name .reached) in
+    subst (Walked t r f v) (sym (name .exact)) (xs ++ (name .command ∷ []), walk-on t r f (name .command) xs led (name .moves)))
+    k n way own-n c cost
+
+-- so the cost that stands there is the least
+least-walk : {t : Tree} → Sound t → (r : Rows) {m f : ℕ} → t .start m ≡ some f → Relaxed t r m f → Attained t r m f → (n : ℕ) → t .owner n ≡ some m
+    → (o : Option ℕ) → r .cost n ≡ o → LeastWalk t r f n o
+least-walk {t} s r {m} {f} st relaxed row n own-n none e =
+    λ c walked.
+    let (xs, way) = walked in
+    let (d, cost, le) = relaxed-walk s r relaxed 0 xs (s .start-owned m f st) (row .start-cost) way in
+    none-some e cost
+least-walk {t} s r {m} {f} st relaxed row n own-n (some c) e = (
+  attained-walk t r row n c own-n e,
+  λ d walked.
+      let (xs, way) = walked in
+      let (b, cost, le) = relaxed-walk s r relaxed 0 xs (s .start-owned m f st) (row .start-cost) way in
+      omega (arith, some-same e cost),
+)
+
+-- ---- the exit costs
+
+-- a node without a transition for x, from what the climb found
+free-passed : (t : Tree) (top n x l : ℕ) → climb t top n x ≡ passed l → (o : Option Transition) → counting t n x ≡ o → counting t n x ≡ none
+free-passed t top n x l up none e = e
+free-passed t top n x l up (some a) e = absurd (passed-found up (climb-own t top n x a e))
+
+-- the transition that a climb in a node's own machine finds
+own-found : (t : Tree) (m n x : ℕ) {u v c : ℕ} → t .owner n ≡ some m → climb t m n x ≡ found u v c → (o : Option Transition) → counting t n x ≡ o
+    → (a : Transition) × (counting t n x ≡ some a) × (a .target ≡ v) × (a .cost ≡ c)
+own-found t m n x own-n up none e = absurd (passed-found (climb-top t m n x own-n e) up)
+own-found t m n x own-n up (some a) e =
+    let same = sym (climb-own t m n x a e) ∙ up in
+    (a, e, cc, cc)
+
+module _ (t : Tree) (s : Sound t) (r : Rows) (local : LocalRows t r) (m f : ℕ) (st : t .start m ≡ some f) (full : r .stale m ≡ false) where
+  -- the one machine opened
+  abbrev only : ℕ → Bool
+  only p = eqb p m
+
+  is-only : {n p : ℕ} → t .owner n ≡ some p → only p ≡ true → t .owner n ≡ some m
+  is-only {n} {p} own-n op = subst (λ (k : ℕ). t .owner n ≡ some k) (eqb-true p m op) own-n
+
+  -- machine m is not below a node inside it
+  only-shut : {n b : ℕ} → Inside t m n → t .below n ≡ some b → only b ≡ false
+  only-shut {n} {b} i bel =
+      let hold = s .below-held n b bel in
+      let (g, used) = s .held-used b n hold in
+      let first = s .start-owned b g used in
+      ne-eqb b m (inside-apart s hold i (own first) first)
+
+  all-filled : (p q : ℕ) → parent t p ≡ some q → r .stale q ≡ false → r .stale p ≡ false
+  all-filled = filled-below t r (local .stale-above)
+
+  only-moves : (q p d x u v c e : ℕ) → t .owner q ≡ some p → only p ≡ true → Shut t only q → r .cost q ≡ some d
+      → climb t m q x ≡ found u v c → nodeExit t r q x ≡ some e
+      → (w : ℕ) × (p′ : ℕ) × (d′ : ℕ) × Lands t only v w × (t .owner w ≡ some p′) × (only p′ ≡ true) × (r .cost w ≡ some d′) × (d′ ≤ d + e + c)
+  only-moves q p d x u v c e own-q op shut cost up exit =
+      let own-m = is-only own-q op in
+      let (a, has, target, price) = own-found t m q x own-m up (counting t q x) refl in
+      let own-v : t .owner v ≡ some m = subst (λ (k : ℕ). t .owner k ≡ some m) target (counting-owned s q x a has own-m) in
+      let (d′, cost′, le) = local .relaxed m f st full .moves q d x _ own-m cost (move-by t r q x has exit) in
+      let cost-v : r .cost v ≡ some d′ = subst (λ (k : ℕ). r .cost k ≡ some d′) target cost′ in
+      (v, m, d′, here (λ b bel. only-shut (own own-v) bel), own-v, eq-eqb m m refl, cost-v, omega (arith, price))
+
+  only-frame : Frame t r m only (r .cost)
+  only-frame =
+      record {
+        sound = s;
+        top-opened = eq-eqb m m refl;
+        inside = λ n p own-n op. own (is-only own-n op);
+        shut-below = λ n p b i own-n shut bel. only-shut i bel;
+        relaxed = local .relaxed;
+        filled-below = all-filled;
+        filled = λ n p b own-n op bel shut. all-filled b m (parent-below s (is-only own-n op) bel) full;
+        moves = only-moves;
+      }
+
+  -- no exit is cheaper than the one that stands there
+  exit-low : (x c : ℕ) → x < commands → Had t m x c → (d : ℕ) × (r .exit m x ≡ some d) × (d ≤ c)
+  exit-low x c range (xs, e) =
+      let parts = exit-parts t m x xs e in
+      let own-f = s .start-owned m f st in
+      let (g, en) = enters s own-f in
+      let begins : g ≡ parts .state = some-same (start-enters s st en) (parts .begins) in
+      let first = base own-f (eq-eqb m m refl) (λ b bel. only-shut (own own-f) bel) (local .relaxed m f st full .start-cost) in
+      let pot = subst (λ (n : ℕ). Potential t r only (r .cost) n 0) begins (potential-enters t r m only (r .cost) only-frame first en) in
+      let plain-g : t .below (parts .state) ≡ none = subst (λ (n : ℕ). t .below n ≡ none) begins (enters-state s en own-f .2) in
+      let (q, pot-q, plain-q, le) = raised-run t r m only (r .cost) only-frame pot plain-g xs (parts .at) (parts .runs) in
+      let come = comes t r m only (r .cost) only-frame pot-q 0 x range (exit-plain t r (parts .at .node) x plain-q) in
+      let left : Comes t r m only (r .cost) only-frame q 0 x (passed (parts .left)) = subst (Comes t r m only (r .cost) only-frame q 0 x) (parts .climbs) come in
+      let (n, p, d, e′, l′, own-n, op, cost, exit, up, le′) = left in
+      let (k, out, small) = local .relaxed m f st full .exits n d x e′ (is-only own-n op) cost range (free-passed t m n x l′ up (counting t n x) refl) exit in
+      (k, out, omega (arith, parts .exact))
+
+  -- so the exit cost that stands there is the least
+  least-exit : (x : ℕ) → x < commands → (o : Option ℕ) → r .exit m x ≡ o → ExitCost t m x o
+  least-exit x range none e = λ c exits. none-some e (exit-low x c range exits .1)
+  least-exit x range (some c) e = (
+    had t s r (local .attained) all-filled x c st full range e,
+    λ d exits. let (k, out, small) = exit-low x d range exits in omega (arith, some-same e out),
+  )
+
+  local-machine : TrueMachine t r m f
+  local-machine =
+      let row = local .attained m f st full in
+      record {
+        least = λ n own-n. least-walk s r st (local .relaxed m f st full) row n own-n (r .cost n) refl;
+        start-cost = row .start-cost;
+        start-before = row .start-before;
+        start-by = row .start-by;
+        named = row .named;
+        chain = row .chain;
+        unreached = row .unreached;
+        exit = λ x range. least-exit x range (r .exit m x) refl;
+        ended = row .ended;
+        no-exit = row .no-exit;
+      }
+
+-- rows that are so machine by machine are true
+pub local-true : {t : Tree} → Sound t → (r : Rows) → LocalRows t r → TrueRows t r
+local-true {t} s r local =
+    record { blanks = local .blanks; stale-above = local .stale-above; filled = λ m f st full. local-machine t s r local m f st full }
+
+-- ---- the other way
+
+-- what is least is there, if anything is
+least-there : (P : ℕ → Type 0) (o : Option ℕ) → Least P o → {c : ℕ} → P c → (d : ℕ) × (o ≡ some d) × (d ≤ c)
+least-there P none least {c} p = absurd (least c p)
+least-there P (some d) least {c} p = (d, refl, least .1 c p)
+
+true-attained : {t : Tree} {r : Rows} {m f : ℕ} → TrueMachine t r m f → Attained t r m f
+true-attained row =
+    record {
+      start-cost = row .start-cost;
+      start-before = row .start-before;
+      start-by = row .start-by;
+      named = row .named;
+      chain = row .chain;
+      unreached = row .unreached;
+      ended = row .ended;
+      no-exit = row .no-exit;
+    }
+
+true-relaxed : {t : Tree} → Sound t → (r : Rows) → TrueRows t r → (m f : ℕ) → t .start m ≡ some f → r .stale m ≡ false → Relaxed t r m f
+true-relaxed {t} s r rows m f st full =
+    let row = rows .filled m f st full in
+    record {
+      start-cost = row .start-cost;
+      moves =
+          λ n c x b own-n cost step.
+          let (xs, way) = attained-walk t r (true-attained row) n c own-n cost in
+          least-there _ (r .cost (b .node)) (row .least (b .node) (move-owned s r n x own-n step))
+          (xs ++ (x ∷ []), walk-on t r f x xs way step);
+      exits =
+          λ n c x e own-n cost range free exit.
+          least-there _ (r .exit m x) (row .exit x range)
+          (had-at t s r (λ p g sp fp. true-attained (rows .filled p g sp fp)) (filled-below t r (rows .stale-above)) x c e st full range own-n cost free exit);
+    }
+
+-- true rows are so machine by machine
+pub true-local : {t : Tree} → Sound t → (r : Rows) → TrueRows t r → LocalRows t r
+true-local s r rows =
+    record {
+      blanks = rows .blanks;
+      stale-above = rows .stale-above;
+      relaxed = λ m f st full. true-relaxed s r rows m f st full;
+      attained = λ m f st full. true-attained (rows .filled m f st full);
+    }
