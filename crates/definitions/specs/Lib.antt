@@ -17,3 +17,4 @@ pub mod Write
 pub mod Choose
 pub mod Session
 pub mod Demand
+pub mod Mast
