@@ -10,3 +10,5 @@ pub mod Potential
 pub mod Realize
 pub mod LocalTruth
 pub mod Simple
+pub mod Commands
+pub mod Worked

@@ -21,12 +21,12 @@ transitionWord none = blank
 transitionWord (some a) = a .target * costs + a .cost
 
 -- the words of one machine, by their place: holding node, start node
-unfoldable pub machineField : Tree → ℕ → ℕ → ℕ
+abbrev pub machineField : Tree → ℕ → ℕ → ℕ
 machineField t m zero = word (t .holder m)
 machineField t m (suc k) = word (t .start m)
 
 -- the words of one node, by their place: owner, machine below, then one for each command
-unfoldable pub nodeField : Tree → ℕ → ℕ → ℕ
+abbrev pub nodeField : Tree → ℕ → ℕ → ℕ
 nodeField t n zero = word (t .owner n)
 nodeField t n (suc zero) = word (t .below n)
 nodeField t n (suc (suc x)) = transitionWord (t .transition n x)
