@@ -12,3 +12,4 @@ pub mod LocalTruth
 pub mod Simple
 pub mod Commands
 pub mod Worked
+pub mod Kept
