@@ -1,24 +1,30 @@
--- Soundness is kept by every edit that is taken: one law for each edit, and then one for all. Assumes nothing.
+-- Soundness is kept by every edit that is taken: one law for each edit, then one for all, for a stream and for a list of streams.
+-- Assumes nothing.
 use mathlib.Core.Path.{_≡_, refl, sym, ap, subst, _∙_}
 use mathlib.Core.Logic.{_⊎_, inl, inr, ⊎-elim}
-use mathlib.Core.Bool.{Bool, true, false, _||_}
+use mathlib.Core.Bool.{Bool, true, false, cond, _||_}
 use mathlib.Core.Option.{Option, none, some}
-use Prim.Native.Nat.{ℕ, suc, _+_, _<_}
+use mathlib.Core.List.{List, [], _∷_}
+use Prim.Native.Nat.{ℕ, zero, suc, _+_, _<_}
 use native.Mathlib.Omega.{arith}
 use lib.Dec.{eqb}
-use lib.ListN.{length}
+use lib.ListN.{length, drop}
 use borrow.Author.Tests.{eq-eqb, ne-eqb, eqb-false}
-use Rattle.definitions.specs.Basics.{_>>=_, unless, put, iterate}
+use Rattle.definitions.specs.Basics.{_>>=_, unless, put, iterate, All}
 use Rattle.definitions.specs.Limits.{machines, nodes, commands, costs, levels}
 use Rattle.definitions.specs.Tree.{Tree, Transition, Sound, parent, level, within}
-use Rattle.definitions.specs.Stream.{Edit, begin, add, refine, remove, arrow, clear, start, crown, edit}
-use Rattle.definitions.specs.Edit.{refusal, edited, single, heldWithin, without, withTransition, withStart}
+use Rattle.definitions.specs.Stream.{Edit, begin, add, refine, remove, arrow, clear, start, crown, Command, edit, refresh}
+use Rattle.definitions.specs.Stream.{byteAt, pairAt, decode, taken}
+use Rattle.definitions.specs.Edit.{refusal, edited, single, heldWithin, without, withTransition, withStart, treeAfter}
+use Rattle.definitions.specs.Load.{next, load, expected}
+use Rattle.definitions.specs.Demand.{Bytes}
 use Rattle.definitions.proofs.Options.{bind-some, present, none-some, some-same, true-false, equal-or-not, put-same, put-other}
 use Rattle.definitions.proofs.Path.{Deep, at-root, under, deep, deep-small, path-root, path-on}
 use Rattle.definitions.proofs.Words.{unused-below, unused-holder}
 use Rattle.definitions.proofs.Commands.{TakenBegin, taken-begin, TakenAdd, taken-add, TakenRefine, taken-refine}
 use Rattle.definitions.proofs.Commands.{TakenRemove, taken-remove, TakenArrow, taken-arrow, TakenStart, taken-start}
 use Rattle.definitions.proofs.Commands.{TakenCrown, taken-crown, within-top, within-up}
+use Rattle.definitions.proofs.Streams.{read-taken, next-taken, load-induction}
 
 -- ---- functions changed at one number, and values taken away
 
@@ -496,3 +502,70 @@ edited-sound {t} s (arrow n x v c) range ok = arrow-sound s (taken-arrow t n x v
 edited-sound {t} s (clear n x) range ok = clear-sound s n x
 edited-sound {t} s (start n) range ok = start-sound s (taken-start t n ok)
 edited-sound {t} s (crown m n) range ok = crown-sound s (taken-crown t m n ok)
+
+-- ---- streams of bytes
+
+-- the cost that a command brings is less than 65,536
+abbrev pub CommandInRange : Command → Type 0
+CommandInRange (edit e) = CostInRange e
+CommandInRange refresh = Unit
+
+-- a command that is taken leaves a sound tree sound
+pub command-sound : {t : Tree} → Sound t → (c : Command) → CommandInRange c → refusal t c ≡ 0 → Sound (treeAfter t c)
+command-sound s (edit e) range ok = edited-sound s e range ok
+command-sound s refresh range ok = s
+
+-- what holds of two values holds of either
+either-way : {A : Type 0} (P : A → Type 0) (b : Bool) {x y : A} → P x → P y → P (cond b x y)
+either-way P true p q = p
+either-way P false p q = q
+
+-- a byte of a list of bytes, and two of them
+byte-small : (bytes : List ℕ) → Bytes bytes → (i : ℕ) → byteAt bytes i < 256
+byte-small [] h i = omega arith
+byte-small (b ∷ rest) h zero = h .0
+byte-small (b ∷ rest) h (suc i) = byte-small rest (h .1) i
+
+pair-small : (bytes : List ℕ) → Bytes bytes → (i : ℕ) → pairAt bytes i < 65536
+pair-small bytes h i =
+    let high = byte-small bytes h i in
+    let low = byte-small bytes h (suc i) in
+    omega arith
+
+-- a command whose operands are bytes brings a cost in range
+pub decode-range : (op : ℕ) (bytes : List ℕ) → Bytes bytes → CommandInRange (decode op bytes)
+unfolding decode
+decode-range op bytes h =
+    let W = CommandInRange in
+    either-way W (eqb op 0x10) tt
+    (either-way W (eqb op 0x11) tt
+    (either-way W (eqb op 0x12) tt
+    (either-way W (eqb op 0x13) tt
+    (either-way W (eqb op 0x14) (pair-small bytes h 5)
+    (either-way W (eqb op 0x15) tt (either-way W (eqb op 0x16) tt (either-way W (eqb op 0x17) tt tt)))))))
+
+-- the rest of a list of bytes is one
+drop-bytes : (size : ℕ) (bytes : List ℕ) → Bytes bytes → Bytes (drop size bytes)
+drop-bytes zero bytes h = h
+drop-bytes (suc n) [] h = h
+drop-bytes (suc n) (b ∷ rest) h = drop-bytes n rest (h .1)
+
+-- what stands next in a list of bytes brings a cost in range
+pub next-range : (t : Tree) (bytes : List ℕ) {c : Command} {size : ℕ} → Bytes bytes → next t bytes ≡ taken c size → CommandInRange c
+next-range t bytes h e =
+    let r = read-taken bytes (next-taken t bytes e .0) in
+    rw (r .command) (decode-range (r .opcode) (r .rest) ((rw (r .split) at h) .1))
+
+-- a stream of bytes leaves a sound tree sound
+pub load-sound : {t : Tree} → Sound t → (bytes : List ℕ) → Bytes bytes → Sound (load t bytes .tree)
+load-sound {t} s bytes h =
+    load-induction (λ t bytes o. Sound t → Bytes bytes → Sound (o .tree)) (λ t s h. s) (λ t bytes k e s h. s)
+    (λ t bytes c size o e rest s h.
+    rest (command-sound s c (next-range t bytes h e) (next-taken t bytes e .1)) (drop-bytes size bytes h))
+    t bytes s h
+
+-- and so does a list of streams
+pub expected-sound : {t : Tree} → Sound t → (streams : List (List ℕ)) → All Bytes streams → Sound (expected t streams)
+unfolding expected
+expected-sound s [] h = s
+expected-sound s (bytes ∷ rest) h = expected-sound (load-sound s bytes (h .0)) rest (h .1)

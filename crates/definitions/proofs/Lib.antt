@@ -12,4 +12,5 @@ pub mod LocalTruth
 pub mod Simple
 pub mod Commands
 pub mod Worked
+pub mod Streams
 pub mod Kept
