@@ -520,12 +520,13 @@ either-way : {A : Type 0} (P : A → Type 0) (b : Bool) {x y : A} → P x → P 
 either-way P true p q = p
 either-way P false p q = q
 
--- a byte of a list of bytes, and two of them
+-- a byte of a list of bytes is under 256
 byte-small : (bytes : List ℕ) → Bytes bytes → (i : ℕ) → byteAt bytes i < 256
 byte-small [] h i = omega arith
 byte-small (b ∷ rest) h zero = h .0
 byte-small (b ∷ rest) h (suc i) = byte-small rest (h .1) i
 
+-- and two of them under 65,536
 pair-small : (bytes : List ℕ) → Bytes bytes → (i : ℕ) → pairAt bytes i < 65536
 pair-small bytes h i =
     let high = byte-small bytes h i in

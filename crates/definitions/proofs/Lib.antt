@@ -14,3 +14,4 @@ pub mod Commands
 pub mod Worked
 pub mod Streams
 pub mod Kept
+pub mod Opened

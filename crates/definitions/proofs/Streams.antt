@@ -16,7 +16,7 @@ use Rattle.definitions.specs.Edit.{refusal, treeAfter}
 use Rattle.definitions.specs.Load.{next, Outcome, stopped, after, onward, loadF, load}
 use Rattle.definitions.proofs.Options.{equal-or-not}
 
--- the end, a command that is taken and a refusal are three things
+-- the end, a command that is taken and a refusal are three things: none is another
 taken-refused : {x : Next} {c : Command} {size k : ℕ} → x ≡ taken c size → x ≡ refused k → ⊥
 taken-refused p q = let z : _≡_ {A = ℕ} 0 1 = cc in omega arith
 
@@ -81,6 +81,7 @@ pub record Read (bytes : List ℕ) (c : Command) (size : ℕ) : Type 0 where
   pub command : c ≡ decode opcode rest
   pub counted : size ≡ suc operands
 
+-- every command that is taken as it is written is read so
 pub read-taken : (bytes : List ℕ) {c : Command} {size : ℕ} → readNext bytes ≡ taken c size → Read bytes c size
 read-taken bytes {c} {size} e = go (reads bytes) e
   where
@@ -143,10 +144,10 @@ next-takes t bytes e ok = rw (e, ok)
 
 -- what may stand next on a tree
 pub data Nexts (t : Tree) (bytes : List ℕ) : Next → Type 0 where
-  finished : bytes ≡ [] → Nexts t bytes ended
+  at-end : bytes ≡ [] → Nexts t bytes ended
   unread : {k : ℕ} → readNext bytes ≡ refused k → Nexts t bytes (refused k)
-  refuses : {c : Command} {size k : ℕ} → readNext bytes ≡ taken c size → refusal t c ≡ k → (k ≡ 0 → ⊥) → Nexts t bytes (refused k)
-  takes : {c : Command} {size : ℕ} → readNext bytes ≡ taken c size → refusal t c ≡ 0 → Nexts t bytes (taken c size)
+  forbidden : {c : Command} {size k : ℕ} → readNext bytes ≡ taken c size → refusal t c ≡ k → (k ≡ 0 → ⊥) → Nexts t bytes (refused k)
+  allowed : {c : Command} {size : ℕ} → readNext bytes ≡ taken c size → refusal t c ≡ 0 → Nexts t bytes (taken c size)
 
 -- what stands next on a tree is one of these
 pub nexts : (t : Tree) (bytes : List ℕ) → Nexts t bytes (next t bytes)
@@ -156,10 +157,10 @@ nexts t bytes = go (readNext bytes) refl
     go ended e =
         let empty : bytes ≡ [] = read-ended bytes e in
         let end : next t bytes ≡ ended = ap (next t) empty ∙ next-nothing t in
-        rw end (finished empty)
+        rw end (at-end empty)
     go (taken c size) e =
-        ⊎-elim (λ ok. rw (next-takes t bytes e ok) (takes e ok))
-        (λ other. rw (next-refuses t bytes e refl other) (refuses e refl other)) (equal-or-not (refusal t c) 0)
+        ⊎-elim (λ ok. rw (next-takes t bytes e ok) (allowed e ok))
+        (λ other. rw (next-refuses t bytes e refl other) (forbidden e refl other)) (equal-or-not (refusal t c) 0)
     go (refused k) e = rw (next-unread t bytes e) (unread e)
 
 -- what is taken was read, and no refusal holds for it
@@ -168,30 +169,30 @@ pub next-taken : (t : Tree) (bytes : List ℕ) {c : Command} {size : ℕ} → ne
 next-taken t bytes {c} {size} e = go (nexts t bytes) e
   where
     go : {x : Next} → Nexts t bytes x → x ≡ taken c size → (readNext bytes ≡ taken c size) × (refusal t c ≡ 0)
-    go (finished l) e = absurd (taken-ended e refl)
+    go (at-end l) e = absurd (taken-ended e refl)
     go (unread r) e = absurd (taken-refused e refl)
-    go (refuses r off other) e = absurd (taken-refused e refl)
-    go (takes {c = d} r ok) e = let same : d ≡ c = cc in (r ∙ e, rw (← same) ok)
+    go (forbidden r off other) e = absurd (taken-refused e refl)
+    go (allowed {c = d} r ok) e = let same : d ≡ c = cc in (r ∙ e, rw (← same) ok)
 
 -- a refusal is never 0
 pub next-refused : (t : Tree) (bytes : List ℕ) {k : ℕ} → next t bytes ≡ refused k → k ≡ 0 → ⊥
 next-refused t bytes {k} e = go (nexts t bytes) e
   where
     go : {x : Next} → Nexts t bytes x → x ≡ refused k → k ≡ 0 → ⊥
-    go (finished l) e z = ended-refused refl e
+    go (at-end l) e z = ended-refused refl e
     go (unread {k = j} r) e z = let same : j ≡ k = cc in ⊎-elim (λ five. omega arith) (λ four. omega arith) (read-refused bytes r)
-    go (refuses {k = j} r off other) e z = let same : j ≡ k = cc in other (same ∙ z)
-    go (takes r ok) e z = taken-refused refl e
+    go (forbidden {k = j} r off other) e z = let same : j ≡ k = cc in other (same ∙ z)
+    go (allowed r ok) e z = taken-refused refl e
 
 -- only an empty stream is at its end
 pub next-ended : (t : Tree) (bytes : List ℕ) → next t bytes ≡ ended → bytes ≡ []
 next-ended t bytes e = go (nexts t bytes) e
   where
     go : {x : Next} → Nexts t bytes x → x ≡ ended → bytes ≡ []
-    go (finished l) e = l
+    go (at-end l) e = l
     go (unread r) e = absurd (ended-refused e refl)
-    go (refuses r off other) e = absurd (ended-refused e refl)
-    go (takes r ok) e = absurd (taken-ended refl e)
+    go (forbidden r off other) e = absurd (ended-refused e refl)
+    go (allowed r ok) e = absurd (taken-ended refl e)
 
 -- a command that is taken takes one byte at least, and none that is not there
 pub next-size : (t : Tree) (bytes : List ℕ) {c : Command} {size : ℕ} → next t bytes ≡ taken c size → (0 < size) × (size ≤ length bytes)
@@ -253,15 +254,15 @@ pub load-induction : (P : Tree → List ℕ → Outcome → Type 0) → ((t : Tr
     → ((t : Tree) (bytes : List ℕ) (c : Command) (size : ℕ) (o : Outcome) → next t bytes ≡ taken c size
     → P (treeAfter t c) (drop size bytes) o → P t bytes (after c size o))
     → (t : Tree) (bytes : List ℕ) → P t bytes (load t bytes)
-load-induction P at-end at-refusal at-command t bytes = go (length bytes) t bytes (omega arith)
+load-induction P empty refusing taking t bytes = go (length bytes) t bytes (omega arith)
   where
     step : (t : Tree) (bytes : List ℕ) (x : Next) → next t bytes ≡ x
         → ((c : Command) (size : ℕ) → x ≡ taken c size → P (treeAfter t c) (drop size bytes) (load (treeAfter t c) (drop size bytes)))
         → P t bytes (load t bytes)
-    step t bytes ended e rest = rw (load-end t bytes e, next-ended t bytes e) (at-end t)
+    step t bytes ended e rest = rw (load-end t bytes e, next-ended t bytes e) (empty t)
     step t bytes (taken c size) e rest =
-        rw (load-taken t bytes e) (at-command t bytes c size (load (treeAfter t c) (drop size bytes)) e (rest c size refl))
-    step t bytes (refused k) e rest = rw (load-refused t bytes e) (at-refusal t bytes k e)
+        rw (load-taken t bytes e) (taking t bytes c size (load (treeAfter t c) (drop size bytes)) e (rest c size refl))
+    step t bytes (refused k) e rest = rw (load-refused t bytes e) (refusing t bytes k e)
 
     go : (fuel : ℕ) (t : Tree) (bytes : List ℕ) → length bytes ≤ fuel → P t bytes (load t bytes)
     go zero t bytes room = step t bytes (next t bytes) refl (λ c size e. absurd (omega (arith, next-size t bytes e)))
