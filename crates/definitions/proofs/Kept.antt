@@ -8,7 +8,7 @@ use mathlib.Core.List.{List, [], _∷_}
 use Prim.Native.Nat.{ℕ, zero, suc, _+_, _<_}
 use native.Mathlib.Omega.{arith}
 use lib.Dec.{eqb}
-use lib.ListN.{length, drop}
+use lib.ListN.{drop}
 use borrow.Author.Tests.{eq-eqb, ne-eqb, eqb-false}
 use Rattle.definitions.specs.Basics.{_>>=_, unless, put, iterate, All}
 use Rattle.definitions.specs.Limits.{machines, nodes, commands, costs, levels}
@@ -19,7 +19,7 @@ use Rattle.definitions.specs.Edit.{refusal, edited, single, heldWithin, 
 use Rattle.definitions.specs.Load.{next, load, expected}
 use Rattle.definitions.specs.Demand.{Bytes}
 use Rattle.definitions.proofs.Options.{bind-some, present, none-some, some-same, true-false, equal-or-not, put-same, put-other}
-use Rattle.definitions.proofs.Path.{Deep, at-root, under, deep, deep-small, path-root, path-on}
+use Rattle.definitions.proofs.Path.{Deep, at-root, under, deep, deep-small, level-deep}
 use Rattle.definitions.proofs.Words.{unused-below, unused-holder}
 use Rattle.definitions.proofs.Commands.{TakenBegin, taken-begin, TakenAdd, taken-add, TakenRefine, taken-refine}
 use Rattle.definitions.proofs.Commands.{TakenRemove, taken-remove, TakenArrow, taken-arrow, TakenStart, taken-start}
@@ -69,12 +69,6 @@ pub deep-climbs : {t : Tree} {m k : ℕ} → Deep t m k → iterate (parent t) k
 unfolding iterate parent
 deep-climbs (at-root e) = ap {B = Option ℕ} some e
 deep-climbs (under held up way) = rw (held, up) (deep-climbs way)
-
--- the level of a node whose machine is k below the root
-pub level-deep : {t : Tree} → Sound t → {n m k : ℕ} → t .owner n ≡ some m → Deep t m k → level t n ≡ suc k
-unfolding level
-level-deep {t} s own (at-root e) = ap length (path-root t own (rw e (s .root-free)))
-level-deep s own (under held up way) = ap length (path-on s own held) ∙ ap suc (level-deep s up way)
 
 -- every value of f is one of g
 abbrev Stays : (ℕ → Option ℕ) → (ℕ → Option ℕ) → Type 0
