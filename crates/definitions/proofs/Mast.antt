@@ -25,9 +25,12 @@ use Rattle.definitions.specs.Calls.{Plan, StepSays}
 use Rattle.definitions.specs.Demand.{Bytes}
 use Rattle.definitions.specs.Mast.{mastStream, clearing, mastAfter, mastTree, RefusedWith16, MastExamples}
 use Rattle.definitions.proofs.Options.{none-some}
+use Rattle.definitions.proofs.Kept.{expected-sound}
+use Rattle.definitions.proofs.Opened.{open-sound}
 use Rattle.definitions.proofs.Tests.{allBelow, allUnder, listed, accounted, boundsTest, capped, freshRows, blankMachine, blankNode}
 use Rattle.definitions.proofs.Tests.{namedTest, chainTest, leftTest, endedTest, machineTest, reachedTest, nodeTest, rowsTest}
-use Rattle.definitions.proofs.Tests.{all-under, bound-least, bound-plan, bound-none, step-says, tested-exit, tested-sheet, tested-refused}
+use Rattle.definitions.proofs.Tests.{all-under, bound-least, bound-plan, bound-none, step-says}
+use Rattle.definitions.proofs.Tests.{tested-exit, tested-sheet, tested-refused}
 
 -- the stream that gives node 1 a transition to itself for command 2
 unfoldable pub looping : List ℕ
@@ -120,110 +123,110 @@ whole : (load (openTree fresh) mastStream .bytes ≡ 70) × (load (openTree fres
 unfolding computing
 whole = (refl, refl)
 
-module _ (expected-sound : (streams : List (List ℕ)) → All Bytes streams → Sound (expected (openTree fresh) streams)) where
-  -- the stations are sound
-  after-sound : (streams : List (List ℕ)) → All Bytes streams → Sound (mastAfter streams)
-  unfolding computing
-  after-sound streams bytes = expected-sound (mastStream ∷ streams) (all-under 256 mastStream refl, bytes)
+-- the stations are sound
+after-sound : (streams : List (List ℕ)) → All Bytes streams → Sound (mastAfter streams)
+unfolding computing
+after-sound streams bytes = expected-sound (open-sound fresh) (mastStream ∷ streams) (all-under 256 mastStream refl, bytes)
 
-  sound : Sound mastTree
-  unfolding mastTree
-  sound = after-sound [] tt
+sound : Sound mastTree
+unfolding mastTree
+sound = after-sound [] tt
 
-  -- the plans
-  from-0-to : (b c : ℕ) (xs : List ℕ) → from-0 b ≡ some c → Moves mastTree 0 b xs c → Distinct (passes mastTree 0 xs)
-      → Plan mastTree 0 b c xs
-  unfolding computing
-  from-0-to = bound-plan mastTree sound from-0 refl 0 (omega arith) refl
+-- the plans
+from-0-to : (b c : ℕ) (xs : List ℕ) → from-0 b ≡ some c → Moves mastTree 0 b xs c → Distinct (passes mastTree 0 xs)
+    → Plan mastTree 0 b c xs
+unfolding computing
+from-0-to = bound-plan mastTree sound from-0 refl 0 (omega arith) refl
 
-  from-0-to-2 : Plan mastTree 0 2 12 (0 ∷ 2 ∷ 1 ∷ [])
-  unfolding computing
-  from-0-to-2 = from-0-to 2 12 (0 ∷ 2 ∷ 1 ∷ []) refl refl (omega arith)
+from-0-to-2 : Plan mastTree 0 2 12 (0 ∷ 2 ∷ 1 ∷ [])
+unfolding computing
+from-0-to-2 = from-0-to 2 12 (0 ∷ 2 ∷ 1 ∷ []) refl refl (omega arith)
 
-  from-0-to-0 : Plan mastTree 0 0 0 []
-  unfolding computing
-  from-0-to-0 = from-0-to 0 0 [] refl refl (omega arith)
+from-0-to-0 : Plan mastTree 0 0 0 []
+unfolding computing
+from-0-to-0 = from-0-to 0 0 [] refl refl (omega arith)
 
-  from-11-to-10 : Plan mastTree 11 10 15 (1 ∷ 0 ∷ 0 ∷ [])
-  unfolding computing
-  from-11-to-10 = bound-plan mastTree sound from-11 refl 11 (omega arith) refl 10 15 (1 ∷ 0 ∷ 0 ∷ []) refl refl (omega arith)
+from-11-to-10 : Plan mastTree 11 10 15 (1 ∷ 0 ∷ 0 ∷ [])
+unfolding computing
+from-11-to-10 = bound-plan mastTree sound from-11 refl 11 (omega arith) refl 10 15 (1 ∷ 0 ∷ 0 ∷ []) refl refl (omega arith)
 
-  -- the exit costs
-  exit-of : (m f x c : ℕ) → mastTree .start m ≡ some f → x < commands → freshRows mastRows .exit m x ≡ some c
-      → ExitCost mastTree m x (some c)
-  unfolding computing
-  exit-of m f x c = tested-exit mastTree sound mastRows refl m f x (some c)
+-- the exit costs
+exit-of : (m f x c : ℕ) → mastTree .start m ≡ some f → x < commands → freshRows mastRows .exit m x ≡ some c
+    → ExitCost mastTree m x (some c)
+unfolding computing
+exit-of m f x c = tested-exit mastTree sound mastRows refl m f x (some c)
 
-  exits-of-1 : ExitCost mastTree 1 0 (some 0) × ExitCost mastTree 1 1 (some 4) × ExitCost mastTree 1 2 (some 4)
-  unfolding computing
-  exits-of-1 = (exit-of 1 10 0 0 refl (omega arith) refl, exit-of 1 10 1 4 refl (omega arith) refl, exit-of 1 10 2 4 refl (omega arith) refl)
+exits-of-1 : ExitCost mastTree 1 0 (some 0) × ExitCost mastTree 1 1 (some 4) × ExitCost mastTree 1 2 (some 4)
+unfolding computing
+exits-of-1 = (exit-of 1 10 0 0 refl (omega arith) refl, exit-of 1 10 1 4 refl (omega arith) refl, exit-of 1 10 2 4 refl (omega arith) refl)
 
-  exits-of-0 : ExitCost mastTree 0 0 (some 5) × ExitCost mastTree 0 1 (some 0) × ExitCost mastTree 0 2 (some 9)
-  unfolding computing
-  exits-of-0 = (exit-of 0 0 0 5 refl (omega arith) refl, exit-of 0 0 1 0 refl (omega arith) refl, exit-of 0 0 2 9 refl (omega arith) refl)
+exits-of-0 : ExitCost mastTree 0 0 (some 5) × ExitCost mastTree 0 1 (some 0) × ExitCost mastTree 0 2 (some 9)
+unfolding computing
+exits-of-0 = (exit-of 0 0 0 5 refl (omega arith) refl, exit-of 0 0 1 0 refl (omega arith) refl, exit-of 0 0 2 9 refl (omega arith) refl)
 
-  -- the steps
-  step-11-by-1 : StepSays (encode mastTree) 11 1 (gives (2 ∷ 3 ∷ []))
-  unfolding computing
-  step-11-by-1 =
-      step-says mastTree sound 11 1 (gives (2 ∷ 3 ∷ [])) (omega arith) (omega arith) {p = 1} refl
-      (inr (λ refined. refined refl, inr (λ stops. none-some stops refl, (record { node = 2; cost = 3 }, refl, refl))))
+-- the steps
+step-11-by-1 : StepSays (encode mastTree) 11 1 (gives (2 ∷ 3 ∷ []))
+unfolding computing
+step-11-by-1 =
+    step-says mastTree sound 11 1 (gives (2 ∷ 3 ∷ [])) (omega arith) (omega arith) {p = 1} refl
+    (inr (λ refined. refined refl, inr (λ stops. none-some stops refl, (record { node = 2; cost = 3 }, refl, refl))))
 
-  step-11-by-0 : StepSays (encode mastTree) 11 0 (refuses 17)
-  unfolding computing
-  step-11-by-0 =
-      step-says mastTree sound 11 0 (refuses 17) (omega arith) (omega arith) {p = 1} refl (inr (λ refined. refined refl, inl (refl, refl)))
+step-11-by-0 : StepSays (encode mastTree) 11 0 (refuses 17)
+unfolding computing
+step-11-by-0 =
+    step-says mastTree sound 11 0 (refuses 17) (omega arith) (omega arith) {p = 1} refl (inr (λ refined. refined refl, inl (refl, refl)))
 
-  step-1 : (x : ℕ) → x < commands → StepSays (encode mastTree) 1 x (refuses 14)
-  unfolding computing
-  step-1 x range = step-says mastTree sound 1 x (refuses 14) (omega arith) range {p = 0} refl (inl (λ plain. none-some plain refl, refl))
+step-1 : (x : ℕ) → x < commands → StepSays (encode mastTree) 1 x (refuses 14)
+unfolding computing
+step-1 x range = step-says mastTree sound 1 x (refuses 14) (omega arith) range {p = 0} refl (inl (λ plain. none-some plain refl, refl))
 
-  -- with transitions cleared
-  cleared-10-1 : LeastCost (mastAfter (clearing 10 1 ∷ [])) 0 2 (some 8)
-  unfolding computing
-  cleared-10-1 =
-      bound-least (mastAfter (clearing 10 1 ∷ [])) (after-sound (clearing 10 1 ∷ []) (omega arith)) without-10-1 refl 0 (omega arith) refl
-      2 8 (0 ∷ 1 ∷ []) refl refl
+-- with transitions cleared
+cleared-10-1 : LeastCost (mastAfter (clearing 10 1 ∷ [])) 0 2 (some 8)
+unfolding computing
+cleared-10-1 =
+    bound-least (mastAfter (clearing 10 1 ∷ [])) (after-sound (clearing 10 1 ∷ []) (omega arith)) without-10-1 refl 0 (omega arith) refl
+    2 8 (0 ∷ 1 ∷ []) refl refl
 
-  cleared-1-1 : LeastCost (mastAfter (clearing 1 1 ∷ [])) 0 2 (some 20)
-  unfolding computing
-  cleared-1-1 =
-      bound-least (mastAfter (clearing 1 1 ∷ [])) (after-sound (clearing 1 1 ∷ []) (omega arith)) without-1-1 refl 0 (omega arith) refl
-      2 20 (2 ∷ []) refl refl
+cleared-1-1 : LeastCost (mastAfter (clearing 1 1 ∷ [])) 0 2 (some 20)
+unfolding computing
+cleared-1-1 =
+    bound-least (mastAfter (clearing 1 1 ∷ [])) (after-sound (clearing 1 1 ∷ []) (omega arith)) without-1-1 refl 0 (omega arith) refl
+    2 20 (2 ∷ []) refl refl
 
-  cleared-both : RefusedWith16 (mastAfter (clearing 1 1 ∷ clearing 0 2 ∷ [])) 0 2 3
-  unfolding computing
-  cleared-both =
-      let t : Tree = mastAfter (clearing 1 1 ∷ clearing 0 2 ∷ []) in
-      let s : Sound t = after-sound (clearing 1 1 ∷ clearing 0 2 ∷ []) (omega arith) in
-      record {
-        sheet = encodeRows (freshRows clearedRows);
-        sheet-true = tested-sheet t s clearedRows refl;
-        answer = tested-refused t s clearedRows refl 0 2 refl refl (bound-none t s without-both refl 0 (omega arith) refl 2 refl);
-      }
+cleared-both : RefusedWith16 (mastAfter (clearing 1 1 ∷ clearing 0 2 ∷ [])) 0 2 3
+unfolding computing
+cleared-both =
+    let t : Tree = mastAfter (clearing 1 1 ∷ clearing 0 2 ∷ []) in
+    let s : Sound t = after-sound (clearing 1 1 ∷ clearing 0 2 ∷ []) (omega arith) in
+    record {
+      sheet = encodeRows (freshRows clearedRows);
+      sheet-true = tested-sheet t s clearedRows refl;
+      answer = tested-refused t s clearedRows refl 0 2 refl refl (bound-none t s without-both refl 0 (omega arith) refl 2 refl);
+    }
 
-  pub mast-examples : MastExamples
-  mast-examples =
-      record {
-        whole = whole;
-        from-0-to-2 = from-0-to-2;
-        from-11-to-10 = from-11-to-10;
-        from-0-to-0 = from-0-to-0;
-        exits-of-1 = exits-of-1;
-        exits-of-0 = exits-of-0;
-        step-11-by-1 = step-11-by-1;
-        step-11-by-0 = step-11-by-0;
-        step-1 = step-1;
-        cleared-10-1 = cleared-10-1;
-        cleared-1-1 = cleared-1-1;
-        cleared-both = cleared-both;
-      }
+-- document 01's starred examples
+pub mast-examples : MastExamples
+mast-examples =
+    record {
+      whole = whole;
+      from-0-to-2 = from-0-to-2;
+      from-11-to-10 = from-11-to-10;
+      from-0-to-0 = from-0-to-0;
+      exits-of-1 = exits-of-1;
+      exits-of-0 = exits-of-0;
+      step-11-by-1 = step-11-by-1;
+      step-11-by-0 = step-11-by-0;
+      step-1 = step-1;
+      cleared-10-1 = cleared-10-1;
+      cleared-1-1 = cleared-1-1;
+      cleared-both = cleared-both;
+    }
 
-  -- With a transition of node 1 to itself for 2, a list that leaves machine 1 by 2 ends inside it, at state 10. The exit cost is the same.
-  pub exit-with-loop : ExitCost (mastAfter (looping ∷ [])) 1 2 (some 4)
-      × (step (mastAfter (looping ∷ [])) 11 2 ≡ some (record { node = 10; cost = 6 }))
-  unfolding computing
-  exit-with-loop = (
-    tested-exit (mastAfter (looping ∷ [])) (after-sound (looping ∷ []) (omega arith)) loopRows refl 1 10 2 (some 4) refl (omega arith) refl,
-    refl,
-  )
+-- With a transition of node 1 to itself for 2, a list that leaves machine 1 by 2 ends inside it, at state 10. The exit cost is the same.
+pub exit-with-loop : ExitCost (mastAfter (looping ∷ [])) 1 2 (some 4)
+    × (step (mastAfter (looping ∷ [])) 11 2 ≡ some (record { node = 10; cost = 6 }))
+unfolding computing
+exit-with-loop = (
+  tested-exit (mastAfter (looping ∷ [])) (after-sound (looping ∷ []) (omega arith)) loopRows refl 1 10 2 (some 4) refl (omega arith) refl,
+  refl,
+)

@@ -144,7 +144,7 @@ module _ (t : Tree) (s : Sound t) (bound : ℕ → Option ℕ) (test : boundsTes
     bound-moves : (b : ℕ) (xs : List ℕ) (c : ℕ) → Moves t a b xs c → (d : ℕ) × (bound b ≡ some d) × (d ≤ 0 + c)
     bound-moves b xs c moves = bounded-run (step t) bound (λ n. n < nodes) bound-step a 0 xs small begins moves
 
-    -- a list that costs no more than the bound of its end has the least cost
+    -- a list that costs just the bound of its end has the least cost
     pub bound-least : (b c : ℕ) (xs : List ℕ) → bound b ≡ some c → Moves t a b xs c → LeastCost t a b (some c)
     bound-least b c xs value moves = (
       (xs, moves),
