@@ -1,3 +1,4 @@
 pub mod Reading
 pub mod Taken
 pub mod Levels
+pub mod Clock
