@@ -1,8 +1,8 @@
 -- The place of each command in the stream that Write gives, as one number: 512 numbers for each level, 256 for its nodes and then 256
 -- for its refined nodes, and after the eight levels 16 numbers for each node's transitions. Assumes nothing.
 use mathlib.Core.Path.{_≡_, refl, ap, _∙_}
-use mathlib.Core.Logic.{inl, inr, ⊎-elim}
-use mathlib.Core.Bool.{Bool, true, false, cond}
+use mathlib.Core.Logic.{_⊎_, inl, inr, ⊎-elim}
+use mathlib.Core.Bool.{false, cond}
 use mathlib.Core.Option.{Option, none, some}
 use Prim.Native.Nat.{ℕ, suc, _+_, _*_, _≤_, _<_}
 use native.Mathlib.Omega.{arith}
@@ -10,9 +10,9 @@ use borrow.Author.Tests.{ne-eqb}
 use Rattle.definitions.specs.Basics.{option, isAt}
 use Rattle.definitions.specs.Limits.{nodes, commands, levels}
 use Rattle.definitions.specs.Tree.{Tree, Sound, level}
-use Rattle.definitions.proofs.Options.{present, true-false, isAt-some, isAt-true}
+use Rattle.definitions.proofs.Options.{present, none-some, some-same, equal-or-not, isAt-some}
 use Rattle.definitions.proofs.Words.{holder-range, below-range}
-use Rattle.samebook.proofs.Levels.{level-range, level-up}
+use Rattle.samebook.proofs.Levels.{root-or-held, level-range, level-up}
 
 -- the places of the add and of the refine of node n, and of its arrow for x, whether they are in the stream or not
 unfoldable pub addPlace : Tree → ℕ → ℕ
@@ -32,7 +32,12 @@ machinePlace t m = option 0 (refinePlace t) (t .holder m)
 unfoldable pub nodePlace : Tree → ℕ → ℕ
 nodePlace t n = option 0 (λ m. cond (isAt (t .start m) n) (machinePlace t m) (addPlace t n)) (t .owner n)
 
--- a value that is not there, or is not k
+-- a value is k or not
+value-or-not : (o : Option ℕ) (k : ℕ) → (o ≡ some k) ⊎ (o ≡ some k → ⊥)
+value-or-not none k = inr (none-some refl)
+value-or-not (some n) k =
+    ⊎-elim (λ e. inl (ap {B = Option ℕ} some e)) (λ other. inr (λ e. other (some-same refl e))) (equal-or-not n k)
+
 isAt-not : (o : Option ℕ) (k : ℕ) → (o ≡ some k → ⊥) → isAt o k ≡ false
 isAt-not none k h = refl
 isAt-not (some n) k h = ne-eqb n k (λ e. h (ap {B = Option ℕ} some e))
@@ -63,17 +68,13 @@ data Comes (t : Tree) (n m : ℕ) : Type 0 where
 
 comes : {t : Tree} → Sound t → {n m : ℕ} → t .owner n ≡ some m → Comes t n m
 unfolding addPlace refinePlace
-comes {t} s {n} {m} own = go (isAt (t .start m) n) refl
+comes {t} s {n} {m} own =
+    ⊎-elim (λ start. starts start (t .holder m) refl)
+    (λ other. added other (s .node-range n m own) (place-other t own other)) (value-or-not (t .start m) n)
   where
     starts : t .start m ≡ some n → (o : Option ℕ) → t .holder m ≡ o → Comes t n m
     starts start none e = first start (place-start t own start ∙ place-free t e)
     starts start (some h) e = held start e (holder-range t s m h e .1) (place-start t own start ∙ place-held t e)
-
-    go : (b : Bool) → isAt (t .start m) n ≡ b → Comes t n m
-    go true e = starts (isAt-true (t .start m) n e) (t .holder m) refl
-    go false e =
-        let other : t .start m ≡ some n → ⊥ = λ f. true-false (isAt-some n n f refl) e in
-        added other (s .node-range n m own) (place-other t own other)
 
 -- ---- what is in use when
 
@@ -96,6 +97,30 @@ node-early {t} s {n} {m} own = go (comes s own)
     go (held start e small at) = omega (arith, level-up s own e)
     go (added other small at) = omega arith
 
+-- all but the root and its start come at a level
+pub machine-late : {t : Tree} → Sound t → {m f : ℕ} → t .start m ≡ some f → (m ≡ t .root → ⊥) → 512 ≤ machinePlace t m
+unfolding refinePlace
+machine-late {t} s {m} used other =
+    ⊎-elim (λ root. absurd (other root))
+    (λ up.
+    let (h, e) = up in
+    let (p, own) = s .holder-used m h e in
+    omega (arith, place-held t e, level-range s own)) (root-or-held s used)
+
+pub node-late : {t : Tree} → Sound t → {n m : ℕ} → t .owner n ≡ some m → (t .start (t .root) ≡ some n → ⊥) → 512 ≤ nodePlace t n
+unfolding addPlace
+node-late {t} s {n} {m} own other =
+    ⊎-elim
+    (λ start.
+    omega (arith, place-start t own start, machine-late s start (λ root. other (rw root at start))))
+    (λ off. omega (arith, place-other t own off, level-range s own)) (value-or-not (t .start m) n)
+
+pub refine-late : {t : Tree} → Sound t → {n b : ℕ} → t .below n ≡ some b → 512 ≤ refinePlace t n
+unfolding refinePlace
+refine-late {t} s {n} {b} holds =
+    let (m, own) = s .holder-used b n (s .below-held n b holds) in
+    omega (arith, level-range s own)
+
 -- all machines, nodes and refinements come before the transitions
 pub machine-all : {t : Tree} → Sound t → {m f : ℕ} → t .start m ≡ some f → machinePlace t m < 4608
 machine-all {t} s {m} {f} used =
@@ -110,6 +135,10 @@ unfolding refinePlace
 refine-all {t} s {n} {b} holds =
     let (m, own) = s .holder-used b n (s .below-held n b holds) in
     omega (arith, s .node-range n m own, level-range s own)
+
+pub arrow-late : (n x : ℕ) → 4608 ≤ arrowPlace n x
+unfolding arrowPlace
+arrow-late n x = omega arith
 
 -- ---- what comes at a place
 
@@ -161,11 +190,6 @@ pub refine-at-refine : {t : Tree} → Sound t → (l i : ℕ) → i < nodes → 
     → refinePlace t n ≡ suc l * 512 + 256 + i → (n ≡ i) × (level t n ≡ suc l)
 unfolding refinePlace
 refine-at-refine {t} s l i small {n} {b} holds here = omega (arith, below-range t s n b holds)
-
--- before the transitions: none of them
-pub arrow-at-build : (l i n x : ℕ) → l < levels → i < 512 → arrowPlace n x ≡ suc l * 512 + i → ⊥
-unfolding arrowPlace
-arrow-at-build l i n x high small here = omega arith
 
 -- at the place of node n and command x among the transitions: that one
 pub arrow-at-arrow : (n x k y : ℕ) → x < commands → y < commands → arrowPlace k y ≡ 4608 + n * 16 + x → (k ≡ n) × (y ≡ x)

@@ -2,3 +2,4 @@ pub mod Reading
 pub mod Taken
 pub mod Levels
 pub mod Clock
+pub mod Grown
