@@ -3,3 +3,5 @@ pub mod Taken
 pub mod Levels
 pub mod Clock
 pub mod Grown
+pub mod Marks
+pub mod Written
