@@ -5,3 +5,4 @@ pub mod Clock
 pub mod Grown
 pub mod Marks
 pub mod Written
+pub mod Back
