@@ -12,3 +12,6 @@ pub mod LocalTruth
 pub mod Simple
 pub mod Commands
 pub mod Worked
+pub mod Streams
+pub mod Kept
+pub mod Opened

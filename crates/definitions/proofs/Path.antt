@@ -1,16 +1,17 @@
 -- The way up and the way down in a sound tree: how deep a machine is, the path from a node to the root, entering a node, and the
 -- climb. Fuel for eight levels is enough; after the laws of this file nobody looks at it. Assumes nothing.
-use mathlib.Core.Path.{_≡_, refl, ap, subst, subst₂}
+use mathlib.Core.Path.{_≡_, refl, sym, _∙_, ap, subst, subst₂}
 use mathlib.Core.Logic.{_⊎_, inl, inr, ⊎-elim}
 use mathlib.Core.Bool.{Bool, true, false, cond}
 use mathlib.Core.Option.{Option, none, some}
 use mathlib.Core.List.{List, [], _∷_}
 use Prim.Native.Nat.{ℕ, zero, suc, _+_, _≤_, _<_}
 use native.Mathlib.Omega.{arith}
+use lib.ListN.{length}
 use native.Mathlib.Nat.{not-suc-le-zero, le-of-suc-le-suc}
 use Rattle.definitions.specs.Basics.{isAt, iterate}
 use Rattle.definitions.specs.Limits.{levels, commands}
-use Rattle.definitions.specs.Tree.{Tree, Transition, Sound, parent, above, pathF, path}
+use Rattle.definitions.specs.Tree.{Tree, Transition, Sound, parent, above, pathF, path, level}
 use Rattle.definitions.specs.Step.{enterF, enter, counting, leaving, leavingOf, Climb, found, passed, past, firstOf, look, climb}
 use Rattle.definitions.proofs.Options.{bind-some, some-same, isAt-some, isAt-other}
 
@@ -92,6 +93,28 @@ path-on {t} s {n} {m} {h} own eh =
     let (k, small, way) = deep s used in
     pathF-on s own eh way 7 small
 
+-- ---- the level of a node's machine
+
+-- it is one more than that of the node that holds the machine
+pub level-on : {t : Tree} → Sound t → {n m h : ℕ} → t .owner n ≡ some m → t .holder m ≡ some h → level t n ≡ suc (level t h)
+unfolding level
+level-on s own hold = ap length (path-on s own hold)
+
+-- it is one more than the number of machines above
+pub level-deep : {t : Tree} → Sound t → {n m k : ℕ} → t .owner n ≡ some m → Deep t m k → level t n ≡ suc k
+unfolding level
+level-deep {t} s {n} {m} own (at-root e) =
+    let free : t .holder m ≡ none = cc (s .root-free) in
+    ap length (path-root t own free)
+level-deep s own (under hold own-h d) = level-on s own hold ∙ ap suc (level-deep s own-h d)
+
+-- it is at most 8
+pub level-bound : {t : Tree} → Sound t → {n m : ℕ} → t .owner n ≡ some m → level t n ≤ levels
+level-bound s {n} {m} own =
+    let (f, used) = s .owner-used n m own in
+    let (k, small, way) = deep s used in
+    omega (arith, level-deep s own way)
+
 -- ---- entering a node
 
 -- node n is entered at state f: by the start nodes of the machines below it
@@ -144,6 +167,17 @@ pub enter-enters : {t : Tree} → Sound t → {n m e : ℕ} → t .owner n ≡ s
 enter-enters {t} s {n} own e =
     let (f, en) = enters s own in
     subst (λ (g : ℕ). Enters t n g) (some-same (enters-enter s en own) e) en
+
+-- a plain node is where it is entered, and a refined one is entered where the start node below it is
+pub enter-plain : (t : Tree) (n : ℕ) → t .below n ≡ none → enter t n ≡ some n
+unfolding enter enterF
+enter-plain t n b = rw b
+
+pub enter-down : {t : Tree} → Sound t → {n m b f : ℕ} → t .owner n ≡ some m → t .below n ≡ some b → t .start b ≡ some f → enter t n ≡ enter t f
+enter-down s {b = b} {f = f} own bel st =
+    let first = s .start-owned b f st in
+    let (e, en) = enters s first in
+    enters-enter s (down bel st en) own ∙ sym (enters-enter s en first)
 
 -- what is entered is a state in use
 pub enters-state : {t : Tree} → Sound t → {n m e : ℕ} → Enters t n e → t .owner n ≡ some m → (p : ℕ) × (t .owner e ≡ some p) × (t .below e ≡ none)

@@ -182,6 +182,36 @@ unfolding transitionOf transitionWord
 word-transition w =
     told-back blank w transitionWord (record { target = w / costs; cost = w % costs }) refl (div-add-mod' w costs)
 
+-- a word that is not the one for absent says its number
+pub present-word : (o : Option ℕ) {w : ℕ} → w ≡ word o → (w ≡ absent → ⊥) → o ≡ some w
+unfolding word
+present-word none e present = absurd (present e)
+present-word (some n) e present = ap some (sym e)
+
+-- the word for absent says that there is none, where that is no number
+pub absent-word : (o : Option ℕ) → ((n : ℕ) → o ≡ some n → n < absent) → {w : ℕ} → w ≡ word o → w ≡ absent → o ≡ none
+unfolding word
+absent-word none h e at = refl
+absent-word (some n) h e at = absurd (omega (arith, h n refl))
+
+-- a word that is not the one for no transition says its target and cost
+pub present-transition : (o : Option Transition) → ((a : Transition) → o ≡ some a → a .cost < costs) → {w : ℕ} → w ≡ transitionWord o → (w ≡ blank → ⊥)
+    → o ≡ some (record { target = w / costs; cost = w % costs })
+unfolding transitionWord
+present-transition none h e present = absurd (present e)
+present-transition (some a) h {w} e present =
+    let fits = h a refl in
+    let target : a .target ≡ w / costs = omega arith in
+    let cost : a .cost ≡ w % costs = omega arith in
+    ap some (λ i. record { target = target i; cost = cost i })
+
+pub blank-transition : (o : Option Transition) → ((a : Transition) → o ≡ some a → (a .target < nodes) × (a .cost < costs)) → {w : ℕ} → w ≡ transitionWord o → w ≡ blank → o ≡ none
+unfolding transitionWord
+blank-transition none h e at = refl
+blank-transition (some a) h e at =
+    let fits = h a refl in
+    absurd (omega arith)
+
 -- a number under its limit is not cut off
 pub under-in : {A : Type 0} (limit i : ℕ) (o : Option A) → i < limit → under limit i o ≡ o
 unfolding under
@@ -291,6 +321,27 @@ module _ (t : Tree) (s : Sound t) where
       let own = s .transition-owned n x a e in
       (s .node-range n (own .0) (own .1), s .node-range (a .target) (own .0) (own .2))
 
+  -- the word for absent, in each field
+  pub no-holder : (m : ℕ) {w : ℕ} → w ≡ word (t .holder m) → w ≡ absent → t .holder m ≡ none
+  no-holder m = absent-word (t .holder m) (λ n e. omega (arith, holder-range m n e .1))
+
+  pub no-start : (m : ℕ) {w : ℕ} → w ≡ word (t .start m) → w ≡ absent → t .start m ≡ none
+  no-start m = absent-word (t .start m) (λ n e. omega (arith, start-range m n e .1))
+
+  pub no-owner : (n : ℕ) {w : ℕ} → w ≡ word (t .owner n) → w ≡ absent → t .owner n ≡ none
+  no-owner n = absent-word (t .owner n) (λ m e. omega (arith, owner-range n m e .1))
+
+  pub no-below : (n : ℕ) {w : ℕ} → w ≡ word (t .below n) → w ≡ absent → t .below n ≡ none
+  no-below n = absent-word (t .below n) (λ m e. omega (arith, below-range n m e .1))
+
+  -- the word for no transition, and any other
+  pub no-transition : (n x : ℕ) {w : ℕ} → w ≡ transitionWord (t .transition n x) → w ≡ blank → t .transition n x ≡ none
+  no-transition n x = blank-transition (t .transition n x) (λ a e. (target-range n x a e .1, s .transition-range n x a e .1))
+
+  pub some-transition : (n x : ℕ) {w : ℕ} → w ≡ transitionWord (t .transition n x) → (w ≡ blank → ⊥)
+      → t .transition n x ≡ some (record { target = w / costs; cost = w % costs })
+  some-transition n x = present-transition (t .transition n x) (λ a e. s .transition-range n x a e .1)
+
   -- unused records are empty: a node that is not in use holds no machine
   pub unused-below : (n : ℕ) → t .owner n ≡ none → t .below n ≡ none
   unused-below n e =
@@ -319,7 +370,7 @@ module _ (t : Tree) (s : Sound t) where
 
 -- the tree that the words of a sound tree hold is that tree
 pub treeOf-encode : (t : Tree) → Sound t → treeOf (encode t) ≡ t
-unfolding treeOf machineField nodeField
+unfolding treeOf
 treeOf-encode t s =
     same-tree (treeOf (encode t)) t (root-word t)
     (λ n.
@@ -364,14 +415,14 @@ encode-injective t u s r e = one-tree (encode u) (encode-well-formed u r) t s e 
 
 -- the tree of a list has the words of the list, for every machine
 pub treeOf-machine : (ws : List ℕ) (m k : ℕ) → m < machines → k < machineFields → machineField (treeOf ws) m k ≡ machineWord ws m k
-unfolding treeOf machineField
+unfolding treeOf
 treeOf-machine ws m zero hm hk = simp (under-in, word-number)
 treeOf-machine ws m (suc zero) hm hk = simp (under-in, word-number)
 treeOf-machine ws m (suc (suc k)) hm hk = absurd (omega arith)
 
 -- and for every node
 pub treeOf-node : (ws : List ℕ) (n k : ℕ) → n < nodes → k < nodeFields → nodeField (treeOf ws) n k ≡ nodeWord ws n k
-unfolding treeOf nodeField
+unfolding treeOf
 treeOf-node ws n zero hn hk = simp (under-in, word-number)
 treeOf-node ws n (suc zero) hn hk = simp (under-in, word-number)
 treeOf-node ws n (suc (suc x)) hn hk =

@@ -1,0 +1,77 @@
+// One command at a state of a well-formed book (document 01, "The tree and its step").
+ghost use mathlib.Core.Path.{_≡_};
+ghost use mathlib.Core.Option.{some};
+ghost use Prim.Native.Nat.{ℕ, _<_};
+ghost use Rattle.definitions.specs.Limits.{commands};
+ghost use Rattle.definitions.specs.Tree.{Tree};
+ghost use Rattle.definitions.specs.Book.{treeOf, WellFormed};
+ghost use Rattle.definitions.specs.Step.{enter, climb, step};
+ghost use Rattle.stepping.specs.Meaning.{Used, climbOf, stepOf};
+
+// Where a command finds a transition: the node that has it, its target and its cost.
+pub enum Climbed {
+    Found { node: u32, target: u32, cost: u32 },
+    Passed,
+}
+
+// Where a command leads, and what it costs; or that the station stops.
+pub enum Stepped {
+    Moved { state: u32, cost: u32 },
+    Stopped,
+}
+
+// The lowest node, s itself first and then the nodes that hold it, that has a transition for x.
+pub fn climb(book: &[u32], s: u32, x: u32) -> Climbed
+    requires { ⌜ WellFormed (now book) × Used (treeOf (now book)) s × (x < commands) ⌝ }
+    ensures { λ r. ⌜ climbOf r ≡ climb (treeOf (now (book .entry))) (treeOf (now (book .entry)) .root) s x ⌝ }
+{
+    let mut n = s;
+    loop {
+        let w = book::transition(book, n, x);
+        if w != book::BLANK {
+            return Climbed::Found {
+                node: n,
+                target: w / 65536,
+                cost: w % 65536,
+            };
+        }
+        let h = book::holder(book, book::owner(book, n));
+        if h == book::ABSENT {
+            return Climbed::Passed;
+        }
+        n = h;
+    }
+}
+
+// The state where node n is entered.
+pub fn enter(book: &[u32], n: u32) -> u32
+    requires { ⌜ WellFormed (now book) × Used (treeOf (now book)) n ⌝ }
+    ensures { λ r. ⌜ enter (treeOf (now (book .entry))) n ≡ some r ⌝ }
+{
+    let mut v = n;
+    loop {
+        let b = book::below(book, v);
+        if b == book::ABSENT {
+            return v;
+        }
+        v = book::start(book, b);
+    }
+}
+
+// What command x does at state s.
+pub fn step_from(book: &[u32], s: u32, x: u32) -> Stepped
+    requires { ⌜ WellFormed (now book) × Used (treeOf (now book)) s × (x < commands) ⌝ }
+    ensures { λ r. ⌜ stepOf r ≡ step (treeOf (now (book .entry))) s x ⌝ }
+{
+    match climb(book, s, x) {
+        Climbed::Found {
+            node: _,
+            target,
+            cost,
+        } => Stepped::Moved {
+            state: enter(book, target),
+            cost,
+        },
+        Climbed::Passed => Stepped::Stopped,
+    }
+}
