@@ -11,13 +11,13 @@ use Rattle.definitions.specs.Tree.{Tree, Sound}
 use Rattle.definitions.specs.Sheet.{Rows}
 use Rattle.definitions.specs.Stream.{Command, edit, begin, add, refine, arrow}
 use Rattle.definitions.specs.Edit.{single, edited}
-use Rattle.definitions.specs.Load.{Outcome, after, loadF, load, RowsAfterAll}
+use Rattle.definitions.specs.Load.{Outcome, after, load, RowsAfterAll}
 use Rattle.definitions.specs.Open.{openRows}
 use Rattle.definitions.specs.Write.{pair, writtenAdd, writtenRefine, writtenArrow, written}
 use Rattle.definitions.proofs.Words.{start-range}
 use Rattle.definitions.proofs.Commands.{begin-taken, add-taken, refine-taken, arrow-taken}
 use Rattle.samebook.proofs.Reading.{spells-begin, spells-add, spells-refine, spells-arrow}
-use Rattle.samebook.proofs.Taken.{Step, load-step, whole, Takes, done, takes-one, takes-both, takes-loadF, takes-rows}
+use Rattle.samebook.proofs.Taken.{Step, load-step, whole, Takes, done, takes-one, takes-both, takes-load, takes-rows}
 use Rattle.samebook.proofs.Grown.{grown, grown-begin, grown-end, add-none, add-may, add-done, refine-none, refine-may, refine-done, arrow-none, arrow-may, arrow-done}
 use Rattle.samebook.proofs.Marks.{begin-opens, add-opens, refine-opens, arrow-opens}
 use Rattle.samebook.proofs.Written.{AddAt, no-add, one-add, add-at, RefineAt, no-refine, one-refine, refine-at, ArrowAt, no-arrow, one-arrow, arrow-at}
@@ -89,7 +89,7 @@ body-takes {t} s {f} first =
 -- begin is taken on any tree, and then what follows it
 begun : {t : Tree} → Sound t → (u : Tree) {f : ℕ} → t .start (t .root) ≡ some f → {cs : List Command}
     → Takes (single (t .root) f) (body t) cs t → load u (written t) ≡ whole (written t) (edit (begin (t .root) f) ∷ cs) t
-unfolding load edited
+unfolding edited
 begun {t} s u {f} first {cs} way =
     let (machine, node) = start-range t s (t .root) f first in
     let step : Step u (begin (t .root) f) (0x10 ∷ t .root ∷ pair f) = record {
@@ -99,9 +99,7 @@ begun {t} s u {f} first {cs} way =
     let size : ℕ = length (body t) in
     let four : 4 + size ≡ suc (suc (suc (suc size))) = omega arith in
     rw (written-parts t first)
-    (load-step step (suc (suc (suc size))) (body t)
-    ∙ ap (after (edit (begin (t .root) f)) 4) (takes-loadF way (suc (suc (suc size))) (omega arith))
-    ∙ rw four)
+    (load-step step (body t) ∙ ap (after (edit (begin (t .root) f)) 4) (takes-load way) ∙ rw four)
 
 -- what loading Write's stream for t into u comes to
 pub record WrittenBack (t u : Tree) : Type 0 where

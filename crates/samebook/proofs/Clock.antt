@@ -11,8 +11,9 @@ use Rattle.definitions.specs.Basics.{option, isAt}
 use Rattle.definitions.specs.Limits.{nodes, commands, levels}
 use Rattle.definitions.specs.Tree.{Tree, Sound, level}
 use Rattle.definitions.proofs.Options.{present, none-some, some-same, equal-or-not, isAt-some}
+use Rattle.definitions.proofs.Path.{level-on}
 use Rattle.definitions.proofs.Words.{holder-range, below-range}
-use Rattle.samebook.proofs.Levels.{root-or-held, level-range, level-up}
+use Rattle.samebook.proofs.Levels.{root-or-held, level-range}
 
 -- the places of the add and of the refine of node n, and of its arrow for x, whether they are in the stream or not
 unfoldable pub addPlace : Tree → ℕ → ℕ
@@ -85,7 +86,7 @@ machine-early {t} s {n} {m} own =
     ⊎-elim (λ free. omega (arith, place-free t free, level-range s own))
     (λ up.
     let (h, e) = up in
-    omega (arith, place-held t e, level-up s own e, holder-range t s m h e)) (present (t .holder m))
+    omega (arith, place-held t e, level-on s own e, holder-range t s m h e)) (present (t .holder m))
 
 -- the nodes of a level are in use before those of them that are refined are refined
 pub node-early : {t : Tree} → Sound t → {n m : ℕ} → t .owner n ≡ some m → nodePlace t n < level t n * 512 + 256
@@ -94,7 +95,7 @@ node-early {t} s {n} {m} own = go (comes s own)
   where
     go : Comes t n m → nodePlace t n < level t n * 512 + 256
     go (first start at) = omega arith
-    go (held start e small at) = omega (arith, level-up s own e)
+    go (held start e small at) = omega (arith, level-on s own e)
     go (added other small at) = omega arith
 
 -- all but the root and its start come at a level

@@ -6,3 +6,4 @@ pub mod Grown
 pub mod Marks
 pub mod Written
 pub mod Back
+pub mod Bound

@@ -1,17 +1,17 @@
 -- Streams that are taken whole: what the definition of loading says of them, and of rows that are as an opening has them.
 -- Assumes nothing.
-use mathlib.Core.Path.{_≡_, refl, ap, subst, _∙_}
+use mathlib.Core.Path.{_≡_, ap, subst, _∙_}
 use mathlib.Core.List.{List, [], _∷_, _++_, append-assoc, append-nil}
-use Prim.Native.Nat.{ℕ, zero, suc, _+_, _≤_, _<_}
-use native.Mathlib.Omega.{arith}
+use Prim.Native.Nat.{ℕ}
 use lib.ListN.{length, length-append}
 use lib.Seq.{drop-append-seam}
 use Rattle.definitions.specs.Tree.{Tree}
 use Rattle.definitions.specs.Sheet.{Rows}
-use Rattle.definitions.specs.Stream.{Edit, Command, edit, readNext}
+use Rattle.definitions.specs.Stream.{Edit, Command, edit}
 use Rattle.definitions.specs.Edit.{refusal, edited, editedRows}
-use Rattle.definitions.specs.Load.{next, Outcome, after, loadF, RowsAfterAll}
+use Rattle.definitions.specs.Load.{Outcome, after, load, RowsAfterAll}
 use Rattle.definitions.specs.Open.{openRows}
+use Rattle.definitions.proofs.Streams.{next-nothing, next-takes, load-end, load-taken}
 use Rattle.samebook.proofs.Reading.{Spells}
 
 -- a command that is taken on tree t, and its bytes
@@ -20,10 +20,11 @@ pub record Step (t : Tree) (e : Edit) (bytes : List ℕ) : Type 0 where
   pub taken : refusal t (edit e) ≡ 0
 
 -- one command is done, and the rest of the stream is left
-pub load-step : {t : Tree} {e : Edit} {bytes : List ℕ} → Step t e bytes → (k : ℕ) (rest : List ℕ)
-    → loadF (suc k) t (bytes ++ rest) ≡ after (edit e) (length bytes) (loadF k (edited t e) rest)
-unfolding loadF next
-load-step {t} {e} {bytes} s k rest = rw (s .spells .reads rest, s .taken, drop-append-seam bytes rest)
+pub load-step : {t : Tree} {e : Edit} {bytes : List ℕ} → Step t e bytes → (rest : List ℕ)
+    → load t (bytes ++ rest) ≡ after (edit e) (length bytes) (load (edited t e) rest)
+load-step {t} {e} {bytes} s rest =
+    load-taken t (bytes ++ rest) (next-takes t (bytes ++ rest) (s .spells rest) (s .taken))
+    ∙ rw (drop-append-seam bytes rest)
 
 -- what becomes of a stream that is taken whole
 abbrev pub whole : List ℕ → List Command → Tree → Outcome
@@ -49,16 +50,10 @@ takes-both done w = w
 takes-both (then s o first) w = rw append-assoc (then s o (takes-both first w))
 
 -- such a stream is loaded whole
-pub takes-loadF : {t u : Tree} {bytes : List ℕ} {cs : List Command} → Takes t bytes cs u → (k : ℕ) → length bytes ≤ k
-    → loadF k t bytes ≡ whole bytes cs u
-unfolding loadF next readNext
-takes-loadF done zero h = refl
-takes-loadF done (suc k) h = refl
-takes-loadF (then {bytes = bytes} {rest = rest} s o w) zero h =
-    absurd (omega (arith, s .spells .some-byte, length-append bytes rest))
-takes-loadF (then {e = e} {bytes = bytes} {rest = rest} s o w) (suc k) h =
-    let fits : length rest ≤ k = omega (arith, s .spells .some-byte, length-append bytes rest) in
-    load-step s k rest ∙ ap (after (edit e) (length bytes)) (takes-loadF w k fits) ∙ rw (length-append bytes rest)
+pub takes-load : {t u : Tree} {bytes : List ℕ} {cs : List Command} → Takes t bytes cs u → load t bytes ≡ whole bytes cs u
+takes-load (done {t = t}) = load-end t [] (next-nothing t)
+takes-load (then {e = e} {bytes = bytes} {rest = rest} s o w) =
+    load-step s rest ∙ ap (after (edit e) (length bytes)) (takes-load w) ∙ rw (length-append bytes rest)
 
 -- and leaves rows as an opening has them, if they were so
 pub takes-rows : {t u : Tree} {bytes : List ℕ} {cs : List Command} → Takes t bytes cs u → (q : Rows) → RowsAfterAll t cs (openRows t) q
