@@ -7,3 +7,4 @@ pub mod Marks
 pub mod Written
 pub mod Back
 pub mod Bound
+pub mod Same
