@@ -1,9 +1,9 @@
 -- Write's stream for a sound tree, loaded into any tree, is taken whole, gives back that very tree, and leaves every machine in use
 -- marked and all else blank. Assumes nothing.
-use mathlib.Core.Path.{_≡_, refl, sym, ap, subst, _∙_}
+use mathlib.Core.Path.{_≡_, ap, subst, _∙_}
 use mathlib.Core.List.{List, [], _∷_, _++_}
 use mathlib.Core.Option.{some}
-use Prim.Native.Nat.{ℕ, suc, _+_, _*_, _≤_, _<_}
+use Prim.Native.Nat.{ℕ, suc, _+_, _*_, _<_}
 use native.Mathlib.Omega.{arith}
 use lib.ListN.{length}
 use Rattle.definitions.specs.Limits.{nodes, commands, levels}
@@ -18,9 +18,12 @@ use Rattle.definitions.proofs.Words.{start-range}
 use Rattle.definitions.proofs.Commands.{begin-taken, add-taken, refine-taken, arrow-taken}
 use Rattle.samebook.proofs.Reading.{spells-begin, spells-add, spells-refine, spells-arrow}
 use Rattle.samebook.proofs.Taken.{Step, load-step, whole, Takes, done, takes-one, takes-both, takes-load, takes-rows}
-use Rattle.samebook.proofs.Grown.{grown, grown-begin, grown-end, add-none, add-may, add-done, refine-none, refine-may, refine-done, arrow-none, arrow-may, arrow-done}
+use Rattle.samebook.proofs.Clock.{addAt, refineAt, arrowAt, afterBegin}
+use Rattle.samebook.proofs.Grown.{grown, grown-begin, grown-end, add-none, add-may, add-done}
+use Rattle.samebook.proofs.Grown.{refine-none, refine-may, refine-done, arrow-none, arrow-may, arrow-done}
 use Rattle.samebook.proofs.Marks.{begin-opens, add-opens, refine-opens, arrow-opens}
-use Rattle.samebook.proofs.Written.{AddAt, no-add, one-add, add-at, RefineAt, no-refine, one-refine, refine-at, ArrowAt, no-arrow, one-arrow, arrow-at}
+use Rattle.samebook.proofs.Written.{AddCase, no-add, one-add, add-case, RefineCase, no-refine, one-refine, refine-case}
+use Rattle.samebook.proofs.Written.{ArrowCase, no-arrow, one-arrow, arrow-case}
 use Rattle.samebook.proofs.Written.{body, written-parts, Piecewise, body-all}
 
 -- the bytes between two places of the stream lead from the tree before the one to the tree before the other
@@ -32,51 +35,55 @@ leads-none : (t : Tree) (a : ℕ) {bytes : List ℕ} → bytes ≡ [] → grown 
 leads-none t a empty same = rw empty ([], subst (Takes (grown t a) [] []) same done)
 
 -- what stands at each place leads to the next
-leads-add : {t : Tree} → Sound t → (l i : ℕ) → l < levels → i < nodes → Leads t (suc l * 512 + i) (writtenAdd t (suc l) i) (suc (suc l * 512 + i))
-leads-add {t} s l i high small = go (add-at t (suc l) i)
+leads-add : {t : Tree} → Sound t → (l i : ℕ) → l < levels → i < nodes
+    → Leads t (addAt (suc l) i) (writtenAdd t (suc l) i) (suc (addAt (suc l) i))
+leads-add {t} s l i high small = go (add-case t (suc l) i)
   where
-    go : AddAt t (suc l) i → Leads t (suc l * 512 + i) (writtenAdd t (suc l) i) (suc (suc l * 512 + i))
-    go (no-add empty not-here) = leads-none t (suc l * 512 + i) empty (add-none s l i high small not-here)
+    go : AddCase t (suc l) i → Leads t (addAt (suc l) i) (writtenAdd t (suc l) i) (suc (addAt (suc l) i))
+    go (no-add empty not-here) = leads-none t (addAt (suc l) i) empty (add-none s l i high small not-here)
     go (one-add {m = m} bytes own other at) =
-        rw bytes
-        (edit (add m i) ∷ [],
-        takes-one (record { spells = spells-add m i; taken = add-taken (add-may s l i high small own other at) })
-        (add-opens (grown t (suc l * 512 + i)) m i) (add-done s l i high small own other at))
+        rw bytes (
+          edit (add m i) ∷ [],
+          takes-one (record { spells = spells-add m i; taken = add-taken (add-may s l i high small own other at) })
+              (add-opens (grown t (addAt (suc l) i)) m i) (add-done s l i high small own other at),
+        )
 
 leads-refine : {t : Tree} → Sound t → (l i : ℕ) → l < levels → i < nodes
-    → Leads t (suc l * 512 + 256 + i) (writtenRefine t (suc l) i) (suc (suc l * 512 + 256 + i))
-leads-refine {t} s l i high small = go (refine-at s (suc l) i)
+    → Leads t (refineAt (suc l) i) (writtenRefine t (suc l) i) (suc (refineAt (suc l) i))
+leads-refine {t} s l i high small = go (refine-case s (suc l) i)
   where
-    go : RefineAt t (suc l) i → Leads t (suc l * 512 + 256 + i) (writtenRefine t (suc l) i) (suc (suc l * 512 + 256 + i))
-    go (no-refine empty not-here) = leads-none t (suc l * 512 + 256 + i) empty (refine-none s l i high small not-here)
+    go : RefineCase t (suc l) i → Leads t (refineAt (suc l) i) (writtenRefine t (suc l) i) (suc (refineAt (suc l) i))
+    go (no-refine empty not-here) = leads-none t (refineAt (suc l) i) empty (refine-none s l i high small not-here)
     go (one-refine {b = b} {f = f} bytes holds first at) =
-        rw bytes
-        (edit (refine i b f) ∷ [],
-        takes-one (record { spells = spells-refine i b f; taken = refine-taken (refine-may s l i high small holds first at) })
-        (refine-opens (grown t (suc l * 512 + 256 + i)) i b f) (refine-done s l i high small holds first at))
+        rw bytes (
+          edit (refine i b f) ∷ [],
+          takes-one (record { spells = spells-refine i b f; taken = refine-taken (refine-may s l i high small holds first at) })
+              (refine-opens (grown t (refineAt (suc l) i)) i b f) (refine-done s l i high small holds first at),
+        )
 
 leads-arrow : {t : Tree} → Sound t → (n x : ℕ) → n < nodes → x < commands
-    → Leads t (4608 + n * 16 + x) (writtenArrow t n x) (suc (4608 + n * 16 + x))
-leads-arrow {t} s n x small known = go (arrow-at t n x)
+    → Leads t (arrowAt n x) (writtenArrow t n x) (suc (arrowAt n x))
+leads-arrow {t} s n x small known = go (arrow-case t n x)
   where
-    go : ArrowAt t n x → Leads t (4608 + n * 16 + x) (writtenArrow t n x) (suc (4608 + n * 16 + x))
-    go (no-arrow empty free) = leads-none t (4608 + n * 16 + x) empty (arrow-none s n x small known free)
+    go : ArrowCase t n x → Leads t (arrowAt n x) (writtenArrow t n x) (suc (arrowAt n x))
+    go (no-arrow empty free) = leads-none t (arrowAt n x) empty (arrow-none s n x small known free)
     go (one-arrow {a = a} bytes drawn) =
-        rw bytes
-        (edit (arrow n x (a .target) (a .cost)) ∷ [],
-        takes-one
-        (record {
-          spells = spells-arrow n x (a .target) (a .cost);
-          taken = arrow-taken (arrow-may s n x small known drawn) (a .cost);
-        })
-        (arrow-opens (grown t (4608 + n * 16 + x)) n x (a .target) (a .cost)) (arrow-done s n x small known drawn))
+        rw bytes (
+          edit (arrow n x (a .target) (a .cost)) ∷ [],
+          takes-one
+              (record {
+                spells = spells-arrow n x (a .target) (a .cost);
+                taken = arrow-taken (arrow-may s n x small known drawn) (a .cost);
+              })
+              (arrow-opens (grown t (arrowAt n x)) n x (a .target) (a .cost)) (arrow-done s n x small known drawn),
+        )
 
 -- so what follows begin leads from begin's one machine to the whole tree
 pub body-takes : {t : Tree} → Sound t → {f : ℕ} → t .start (t .root) ≡ some f
     → (cs : List Command) × Takes (single (t .root) f) (body t) cs t
 body-takes {t} s {f} first =
     let (cs, way) = body-all pieces t (leads-add s) (leads-refine s) (leads-arrow s) in
-    (cs, rw (grown-begin s f first) (subst (Takes (grown t 512) (body t) cs) (grown-end s) way))
+    (cs, rw (grown-begin s f first) (subst (Takes (grown t afterBegin) (body t) cs) (grown-end s) way))
   where
     pieces : Piecewise (Leads t)
     pieces =

@@ -1,27 +1,29 @@
 -- Write's stream for a sound tree has at most 33,918 bytes: an add brings a node for its 4 bytes, a refine a node and a machine for
 -- its 6, and there are at most 256 nodes, 64 machines and 4,096 transitions of 8 bytes. Assumes nothing.
-use mathlib.Core.Path.{_≡_, refl, sym, ap, subst, _∙_}
-use mathlib.Core.Logic.{_⊎_, inl, inr, ⊎-elim}
+use mathlib.Core.Path.{_≡_, refl, ap}
 use mathlib.Core.Bool.{Bool, true, false, cond}
 use mathlib.Core.Option.{Option, none, some}
-use mathlib.Core.List.{List, [], _∷_, _++_}
-use Prim.Native.Nat.{ℕ, zero, suc, _+_, _*_, _-_, _≤_, _<_}
+use mathlib.Core.List.{List, []}
+use Prim.Native.Nat.{ℕ, suc, _+_, _*_, _-_, _≤_, _<_}
 use native.Mathlib.Omega.{arith}
 use lib.Dec.{eqb}
 use lib.ListN.{length, length-append}
 use Rattle.definitions.specs.Basics.{isSome, put, countBelow}
-use Rattle.definitions.specs.Limits.{machines, nodes, commands, levels, longestStream}
+use Rattle.definitions.specs.Limits.{machines, nodes, commands, levels}
 use Rattle.definitions.specs.Tree.{Tree, Sound, usedMachine, usedNode}
-use Rattle.definitions.specs.Stream.{Edit, add, refine, arrow}
+use Rattle.definitions.specs.Stream.{add, refine, arrow}
 use Rattle.definitions.specs.Edit.{single, withTransition, edited}
-use Rattle.definitions.specs.Write.{pair, writtenAdd, writtenRefine, writtenArrow, written}
+use Rattle.definitions.specs.Write.{writtenAdd, writtenRefine, writtenArrow}
 use Rattle.definitions.specs.Demand.{WriteBound}
-use Rattle.definitions.proofs.Options.{equal-or-not, put-same, put-other}
+use Rattle.definitions.proofs.Options.{put-same}
 use Rattle.definitions.proofs.Words.{start-range}
-use Rattle.definitions.proofs.Simple.{count-mono, count-more, count-limit}
+use Rattle.definitions.proofs.Simple.{count-more, count-limit}
 use Rattle.definitions.proofs.Commands.{TakenAdd, TakenRefine}
-use Rattle.samebook.proofs.Grown.{grown, grown-begin, grown-end, add-none, add-may, add-done, refine-none, refine-may, refine-done, arrow-none, arrow-done}
-use Rattle.samebook.proofs.Written.{AddAt, no-add, one-add, add-at, RefineAt, no-refine, one-refine, refine-at, ArrowAt, no-arrow, one-arrow, arrow-at}
+use Rattle.samebook.proofs.Clock.{addAt, refineAt, arrowAt, afterBegin, afterLevels, afterAll}
+use Rattle.samebook.proofs.Grown.{grown, grown-begin, add-none, add-may, add-done}
+use Rattle.samebook.proofs.Grown.{refine-none, refine-may, refine-done, arrow-none, arrow-done}
+use Rattle.samebook.proofs.Written.{AddCase, no-add, one-add, add-case, RefineCase, no-refine, one-refine, refine-case}
+use Rattle.samebook.proofs.Written.{ArrowCase, no-arrow, one-arrow, arrow-case}
 use Rattle.samebook.proofs.Written.{body, written-parts, Piecewise, body-all}
 
 -- the bytes that a tree's nodes and machines may cost
@@ -78,7 +80,7 @@ weight-limit u = omega (arith, count-limit nodes (usedNode u), count-limit machi
 
 -- what may have been spent before a place: on the nodes and machines that are there, and 8 bytes on every transition passed
 abbrev spent : Tree → ℕ → ℕ
-spent t T = weight (grown t T) + 8 * (T - 4608)
+spent t T = weight (grown t T) + 8 * (T - afterLevels)
 
 -- the bytes between two places are no more than what is spent between them
 abbrev Pays : Tree → ℕ → List ℕ → ℕ → Type 0
@@ -89,11 +91,12 @@ pays-none : (t : Tree) (a : ℕ) {bytes : List ℕ} → bytes ≡ [] → grown t
 pays-none t a empty same = omega (arith, ap length empty, ap weight same)
 
 -- what stands at each place is paid for
-pays-add : {t : Tree} → Sound t → (l i : ℕ) → l < levels → i < nodes → Pays t (suc l * 512 + i) (writtenAdd t (suc l) i) (suc (suc l * 512 + i))
-pays-add {t} s l i high small = go (add-at t (suc l) i)
+pays-add : {t : Tree} → Sound t → (l i : ℕ) → l < levels → i < nodes
+    → Pays t (addAt (suc l) i) (writtenAdd t (suc l) i) (suc (addAt (suc l) i))
+pays-add {t} s l i high small = go (add-case t (suc l) i)
   where
-    go : AddAt t (suc l) i → Pays t (suc l * 512 + i) (writtenAdd t (suc l) i) (suc (suc l * 512 + i))
-    go (no-add empty not-here) = pays-none t (suc l * 512 + i) empty (add-none s l i high small not-here)
+    go : AddCase t (suc l) i → Pays t (addAt (suc l) i) (writtenAdd t (suc l) i) (suc (addAt (suc l) i))
+    go (no-add empty not-here) = pays-none t (addAt (suc l) i) empty (add-none s l i high small not-here)
     go (one-add {m = m} bytes own other at) =
         omega (
           arith,
@@ -103,11 +106,11 @@ pays-add {t} s l i high small = go (add-at t (suc l) i)
         )
 
 pays-refine : {t : Tree} → Sound t → (l i : ℕ) → l < levels → i < nodes
-    → Pays t (suc l * 512 + 256 + i) (writtenRefine t (suc l) i) (suc (suc l * 512 + 256 + i))
-pays-refine {t} s l i high small = go (refine-at s (suc l) i)
+    → Pays t (refineAt (suc l) i) (writtenRefine t (suc l) i) (suc (refineAt (suc l) i))
+pays-refine {t} s l i high small = go (refine-case s (suc l) i)
   where
-    go : RefineAt t (suc l) i → Pays t (suc l * 512 + 256 + i) (writtenRefine t (suc l) i) (suc (suc l * 512 + 256 + i))
-    go (no-refine empty not-here) = pays-none t (suc l * 512 + 256 + i) empty (refine-none s l i high small not-here)
+    go : RefineCase t (suc l) i → Pays t (refineAt (suc l) i) (writtenRefine t (suc l) i) (suc (refineAt (suc l) i))
+    go (no-refine empty not-here) = pays-none t (refineAt (suc l) i) empty (refine-none s l i high small not-here)
     go (one-refine {b = b} {f = f} bytes holds first at) =
         omega (
           arith,
@@ -117,16 +120,16 @@ pays-refine {t} s l i high small = go (refine-at s (suc l) i)
         )
 
 pays-arrow : {t : Tree} → Sound t → (n x : ℕ) → n < nodes → x < commands
-    → Pays t (4608 + n * 16 + x) (writtenArrow t n x) (suc (4608 + n * 16 + x))
-pays-arrow {t} s n x small known = go (arrow-at t n x)
+    → Pays t (arrowAt n x) (writtenArrow t n x) (suc (arrowAt n x))
+pays-arrow {t} s n x small known = go (arrow-case t n x)
   where
-    go : ArrowAt t n x → Pays t (4608 + n * 16 + x) (writtenArrow t n x) (suc (4608 + n * 16 + x))
-    go (no-arrow empty free) = pays-none t (4608 + n * 16 + x) empty (arrow-none s n x small known free)
+    go : ArrowCase t n x → Pays t (arrowAt n x) (writtenArrow t n x) (suc (arrowAt n x))
+    go (no-arrow empty free) = pays-none t (arrowAt n x) empty (arrow-none s n x small known free)
     go (one-arrow {a = a} bytes drawn) =
         omega (
           arith,
           ap length bytes,
-          arrow-weight (grown t (4608 + n * 16 + x)) n x (a .target) (a .cost),
+          arrow-weight (grown t (arrowAt n x)) n x (a .target) (a .cost),
           ap weight (arrow-done s n x small known drawn),
         )
 
@@ -135,13 +138,13 @@ pub write-bound : WriteBound
 write-bound t s =
     let (f, first) = s .root-used in
     let (machine, node) = start-range t s (t .root) f first in
-    let paid : Pays t 512 (body t) 8704 = body-all pieces t (pays-add s) (pays-refine s) (pays-arrow s) in
+    let paid : Pays t afterBegin (body t) afterAll = body-all pieces t (pays-add s) (pays-refine s) (pays-arrow s) in
     omega (
       arith,
       ap length (written-parts t first),
       single-weight (t .root) f machine node,
       ap weight (grown-begin s f first),
-      weight-limit (grown t 8704),
+      weight-limit (grown t afterAll),
     )
   where
     pieces : Piecewise (Pays t)

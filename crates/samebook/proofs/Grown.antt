@@ -1,27 +1,27 @@
 -- The tree that stands after the commands before a place of Write's stream, from begin's one machine to the whole tree, and what the
 -- command at a place makes of it. Assumes nothing.
 use mathlib.Core.Path.{_≡_, refl, sym, ap, subst, _∙_}
-use mathlib.Core.Logic.{_⊎_, inl, inr, ⊎-elim}
+use mathlib.Core.Logic.{⊎-elim}
 use mathlib.Core.Bool.{Bool, true, false, cond}
 use mathlib.Core.Option.{Option, none, some}
 use Prim.Native.Nat.{ℕ, suc, _+_, _*_, _≤_, _<_}
 use native.Mathlib.Decide.{decLe}
 use native.Mathlib.Omega.{arith}
-use lib.Dec.{eqb, ltb}
-use borrow.Author.Tests.{lt-ltb, le-ltb, ltb-true, ltb-false, eq-eqb, ne-eqb}
+use lib.Dec.{ltb}
+use borrow.Author.Tests.{lt-ltb, le-ltb, ltb-true}
 use Rattle.definitions.specs.Basics.{put}
 use Rattle.definitions.specs.Limits.{nodes, commands, levels}
 use Rattle.definitions.specs.Tree.{Tree, Transition, Sound, above, level}
 use Rattle.definitions.specs.Stream.{add, refine, arrow}
 use Rattle.definitions.specs.Edit.{single, withTransition, edited}
-use Rattle.definitions.proofs.Options.{bind-some, present, none-some, some-same, equal-or-not, put-same, put-other}
+use Rattle.definitions.proofs.Options.{bind-some, none-some, some-same, equal-or-not, put-same, put-other}
 use Rattle.definitions.proofs.Words.{same-tree, owner-range, start-range, target-range}
 use Rattle.definitions.proofs.Path.{root-holder}
 use Rattle.definitions.proofs.Commands.{TakenAdd, TakenRefine, TakenArrow}
-use Rattle.samebook.proofs.Levels.{root-or-held, level-range, level-refined, level-less}
-use Rattle.samebook.proofs.Clock.{addPlace, refinePlace, arrowPlace, machinePlace, nodePlace}
-use Rattle.samebook.proofs.Clock.{place-free, place-held, place-start, place-other, machine-all, node-all, refine-all, arrow-late, machine-early, node-early}
-use Rattle.samebook.proofs.Clock.{machine-late, node-late, refine-late, arrow-at-arrow}
+use Rattle.samebook.proofs.Levels.{level-refined, level-less}
+use Rattle.samebook.proofs.Clock.{addAt, refineAt, arrowAt, afterBegin, afterAll, addPlace, refinePlace, machinePlace, nodePlace}
+use Rattle.samebook.proofs.Clock.{place-free, place-held, place-start, place-other, machine-early, node-early}
+use Rattle.samebook.proofs.Clock.{machine-late, node-late, refine-late, machine-all, node-all, refine-all, arrow-at-arrow}
 use Rattle.samebook.proofs.Clock.{node-at-add, machine-at-add, refine-at-add, node-at-refine, machine-at-refine, refine-at-refine}
 
 -- ---- values that come at their place
@@ -100,6 +100,7 @@ put-first T w f n v here early late k =
 
 -- ---- the tree before a place
 
+-- what the commands before place T have made
 unfoldable pub grown : Tree → ℕ → Tree
 grown t T =
     record {
@@ -108,19 +109,19 @@ grown t T =
       below = λ n. passed T (refinePlace t n) (t .below n);
       start = λ m. passed T (machinePlace t m) (t .start m);
       holder = λ m. passed T (machinePlace t m) (t .holder m);
-      transition = λ n x. passed T (arrowPlace n x) (t .transition n x);
+      transition = λ n x. passed T (arrowAt n x) (t .transition n x);
     }
 
 -- nothing stands at a place: the tree stays
 pub grown-still : {t : Tree} → Sound t → (T : ℕ) → ((n m : ℕ) → t .owner n ≡ some m → nodePlace t n ≡ T → ⊥)
     → ((n b : ℕ) → t .below n ≡ some b → refinePlace t n ≡ T → ⊥) → ((m f : ℕ) → t .start m ≡ some f → machinePlace t m ≡ T → ⊥)
-    → ((n x : ℕ) (a : Transition) → t .transition n x ≡ some a → arrowPlace n x ≡ T → ⊥) → grown t T ≡ grown t (suc T)
+    → ((n x : ℕ) (a : Transition) → t .transition n x ≡ some a → arrowAt n x ≡ T → ⊥) → grown t T ≡ grown t (suc T)
 unfolding grown
 grown-still {t} s T node refined machine drawn =
     same-tree (grown t T) (grown t (suc T)) refl (λ n. passed-still T (nodePlace t n) (t .owner n) (node n))
     (λ n. passed-still T (refinePlace t n) (t .below n) (refined n)) (λ m. passed-still T (machinePlace t m) (t .start m) (machine m))
     (λ m. passed-still T (machinePlace t m) (t .holder m) (λ h e. let (f, used) = s .held-used m h e in machine m f used))
-    (λ n x. passed-still T (arrowPlace n x) (t .transition n x) (drawn n x))
+    (λ n x. passed-still T (arrowAt n x) (t .transition n x) (drawn n x))
 
 -- what is in use is in use in the whole tree, and what it stands below, it stands below there
 pub grown-above : (t : Tree) (T n h : ℕ) → above (grown t T) n ≡ some h → above t n ≡ some h
@@ -133,53 +134,53 @@ grown-above t T n h e =
 -- ---- the first place and the last
 
 -- after begin there is the root machine with its start
-pub grown-begin : {t : Tree} → Sound t → (f : ℕ) → t .start (t .root) ≡ some f → single (t .root) f ≡ grown t 512
+pub grown-begin : {t : Tree} → Sound t → (f : ℕ) → t .start (t .root) ≡ some f → single (t .root) f ≡ grown t afterBegin
 unfolding grown single
 grown-begin {t} s f first =
     let own : t .owner f ≡ some (t .root) = s .start-owned (t .root) f first in
     let root : machinePlace t (t .root) ≡ 0 = place-free t (s .root-free) in
-    same-tree (single (t .root) f) (grown t 512) refl
-    (put-first 512 (nodePlace t) (t .owner) f (t .root) own (omega (arith, place-start t own first))
+    same-tree (single (t .root) f) (grown t afterBegin) refl
+    (put-first afterBegin (nodePlace t) (t .owner) f (t .root) own (omega (arith, place-start t own first))
     (λ n m e other. node-late s e (λ at. other (some-same at first))))
-    (λ n. sym (passed-late 512 (refinePlace t n) (t .below n) (λ b e. refine-late s e)))
-    (put-first 512 (machinePlace t) (t .start) (t .root) f first (omega arith) (λ m k e other. machine-late s e other))
-    (λ m. sym (passed-late 512 (machinePlace t m) (t .holder m) (λ h e. machine-late s (s .held-used m h e .1) (λ same. root-holder s same e))))
-    (λ n x. sym (passed-late 512 (arrowPlace n x) (t .transition n x) (λ a e. omega (arith, arrow-late n x))))
+    (λ n. sym (passed-late afterBegin (refinePlace t n) (t .below n) (λ b e. refine-late s e)))
+    (put-first afterBegin (machinePlace t) (t .start) (t .root) f first (omega arith) (λ m k e other. machine-late s e other))
+    (λ m.
+    sym
+    (passed-late afterBegin (machinePlace t m) (t .holder m)
+    (λ h e. machine-late s (s .held-used m h e .1) (λ same. root-holder s same e))))
+    (λ n x. sym (passed-late afterBegin (arrowAt n x) (t .transition n x) (λ a e. omega arith)))
 
 -- after the last place there is the whole tree
-pub grown-end : {t : Tree} → Sound t → grown t 8704 ≡ t
-unfolding grown arrowPlace
+pub grown-end : {t : Tree} → Sound t → grown t afterAll ≡ t
+unfolding grown
 grown-end {t} s =
-    same-tree (grown t 8704) t refl
-    (λ n. passed-all 8704 (nodePlace t n) (t .owner n) (λ m e. omega (arith, node-all s e)))
-    (λ n. passed-all 8704 (refinePlace t n) (t .below n) (λ b e. omega (arith, refine-all s e)))
-    (λ m. passed-all 8704 (machinePlace t m) (t .start m) (λ f e. omega (arith, machine-all s e)))
-    (λ m. passed-all 8704 (machinePlace t m) (t .holder m) (λ h e. omega (arith, machine-all s (s .held-used m h e .1))))
+    same-tree (grown t afterAll) t refl
+    (λ n. passed-all afterAll (nodePlace t n) (t .owner n) (λ m e. omega (arith, node-all s e)))
+    (λ n. passed-all afterAll (refinePlace t n) (t .below n) (λ b e. omega (arith, refine-all s e)))
+    (λ m. passed-all afterAll (machinePlace t m) (t .start m) (λ f e. omega (arith, machine-all s e)))
+    (λ m. passed-all afterAll (machinePlace t m) (t .holder m) (λ h e. omega (arith, machine-all s (s .held-used m h e .1))))
     (λ n x.
-    passed-all 8704 (arrowPlace n x) (t .transition n x)
+    passed-all afterAll (arrowAt n x) (t .transition n x)
     (λ a e. omega (arith, target-range t s n x a e, s .transition-range n x a e)))
 
 -- ---- the adds
 
 module _ {t : Tree} (s : Sound t) (l i : ℕ) (high : l < levels) (small : i < nodes) where
-  -- the place of node i among the adds of level l
-  abbrev addAt : ℕ
-  addAt = suc l * 512 + i
-
-  -- no refinement, machine or transition comes there
-  refine-not : (n b : ℕ) → t .below n ≡ some b → refinePlace t n ≡ addAt → ⊥
+  -- at the place of node i among the adds of level l + 1 no refinement, machine or transition comes
+  refine-not : (n b : ℕ) → t .below n ≡ some b → refinePlace t n ≡ addAt (suc l) i → ⊥
   refine-not n b holds here = refine-at-add s l i small holds here
 
-  machine-not : (m : ℕ) → machinePlace t m ≡ addAt → ⊥
+  machine-not : (m : ℕ) → machinePlace t m ≡ addAt (suc l) i → ⊥
   machine-not m here = machine-at-add s l i small m here
 
-  arrow-not : (n x : ℕ) → arrowPlace n x ≡ addAt → ⊥
-  arrow-not n x here = omega (arith, arrow-late n x)
+  arrow-not : (n x : ℕ) → arrowAt n x ≡ addAt (suc l) i → ⊥
+  arrow-not n x here = omega arith
 
   -- node i is not added at this level: the tree stays
-  pub add-none : ((m : ℕ) → t .owner i ≡ some m → (t .start m ≡ some i → ⊥) → level t i ≡ suc l → ⊥) → grown t addAt ≡ grown t (suc addAt)
+  pub add-none : ((m : ℕ) → t .owner i ≡ some m → (t .start m ≡ some i → ⊥) → level t i ≡ suc l → ⊥)
+      → grown t (addAt (suc l) i) ≡ grown t (suc (addAt (suc l) i))
   add-none not-here =
-      grown-still s addAt
+      grown-still s (addAt (suc l) i)
       (λ n m own here.
       let (other, same, at) = node-at-add s l i small own here in
       not-here m (rw same at own) (rw same at other) (rw same at at))
@@ -187,49 +188,46 @@ module _ {t : Tree} (s : Sound t) (l i : ℕ) (high : l < levels) (small : i < n
 
   module _ {m : ℕ} (own : t .owner i ≡ some m) (other : t .start m ≡ some i → ⊥) (at : level t i ≡ suc l) where
     -- the node's place
-    add-here : nodePlace t i ≡ addAt
+    add-here : nodePlace t i ≡ addAt (suc l) i
     unfolding addPlace
     add-here = place-other t own other ∙ rw at
 
     -- it is taken
-    pub add-may : TakenAdd (grown t addAt) m i
+    pub add-may : TakenAdd (grown t (addAt (suc l) i)) m i
     unfolding grown
     add-may =
         let (f, used) = s .owner-used i m own in
-        let early : machinePlace t m < level t i * 512 = machine-early s own in
+        let early : machinePlace t m < addAt (level t i) 0 = machine-early s own in
         record {
           machine-range = owner-range t s i m own .1;
           node-range = small;
-          machine-used = (f, passed-in addAt (machinePlace t m) (t .start m) (omega arith) ∙ used);
-          node-new = passed-out addAt (nodePlace t i) (t .owner i) (omega (arith, add-here));
+          machine-used = (f, passed-in (addAt (suc l) i) (machinePlace t m) (t .start m) (omega arith) ∙ used);
+          node-new = passed-out (addAt (suc l) i) (nodePlace t i) (t .owner i) (omega (arith, add-here));
         }
 
     -- and what it leaves
-    pub add-done : edited (grown t addAt) (add m i) ≡ grown t (suc addAt)
+    pub add-done : edited (grown t (addAt (suc l) i)) (add m i) ≡ grown t (suc (addAt (suc l) i))
     unfolding grown edited
     add-done =
-        same-tree (edited (grown t addAt) (add m i)) (grown t (suc addAt)) refl
-        (passed-put addAt (nodePlace t) (t .owner) i m own add-here (λ k a e here. node-at-add s l i small e here .1))
-        (λ n. passed-still addAt (refinePlace t n) (t .below n) (refine-not n))
-        (λ p. passed-still addAt (machinePlace t p) (t .start p) (λ f e. machine-not p))
-        (λ p. passed-still addAt (machinePlace t p) (t .holder p) (λ f e. machine-not p))
-        (λ n x. passed-still addAt (arrowPlace n x) (t .transition n x) (λ a e. arrow-not n x))
+        same-tree (edited (grown t (addAt (suc l) i)) (add m i)) (grown t (suc (addAt (suc l) i))) refl
+        (passed-put (addAt (suc l) i) (nodePlace t) (t .owner) i m own add-here (λ k a e here. node-at-add s l i small e here .1))
+        (λ n. passed-still (addAt (suc l) i) (refinePlace t n) (t .below n) (refine-not n))
+        (λ p. passed-still (addAt (suc l) i) (machinePlace t p) (t .start p) (λ f e. machine-not p))
+        (λ p. passed-still (addAt (suc l) i) (machinePlace t p) (t .holder p) (λ f e. machine-not p))
+        (λ n x. passed-still (addAt (suc l) i) (arrowAt n x) (t .transition n x) (λ a e. arrow-not n x))
 
 -- ---- the refines
 
 module _ {t : Tree} (s : Sound t) (l i : ℕ) (high : l < levels) (small : i < nodes) where
-  -- the place of node i among the refines of level l
-  abbrev refineAt : ℕ
-  refineAt = suc l * 512 + 256 + i
-
-  -- no transition comes there
-  no-arrow : (n x : ℕ) → arrowPlace n x ≡ refineAt → ⊥
-  no-arrow n x here = omega (arith, arrow-late n x)
+  -- at the place of node i among the refines of level l + 1 no transition comes
+  no-arrow : (n x : ℕ) → arrowAt n x ≡ refineAt (suc l) i → ⊥
+  no-arrow n x here = omega arith
 
   -- node i is not refined at this level: the tree stays
-  pub refine-none : ((b : ℕ) → t .below i ≡ some b → level t i ≡ suc l → ⊥) → grown t refineAt ≡ grown t (suc refineAt)
+  pub refine-none : ((b : ℕ) → t .below i ≡ some b → level t i ≡ suc l → ⊥)
+      → grown t (refineAt (suc l) i) ≡ grown t (suc (refineAt (suc l) i))
   refine-none not-here =
-      grown-still s refineAt
+      grown-still s (refineAt (suc l) i)
       (λ n m own here.
       let (start, held, at) = node-at-refine s l i small own here in
       not-here m (s .held-below m i held) at)
@@ -247,79 +245,76 @@ module _ {t : Tree} (s : Sound t) (l i : ℕ) (high : l < levels) (small : i < n
     only-held {m} held = some-same (s .held-below m i held) holds
 
     -- the places of the refinement, of the machine below and of its start
-    refine-here : refinePlace t i ≡ refineAt
+    refine-here : refinePlace t i ≡ refineAt (suc l) i
     unfolding refinePlace
     refine-here = rw at
 
-    machine-here : machinePlace t b ≡ refineAt
+    machine-here : machinePlace t b ≡ refineAt (suc l) i
     machine-here = place-held t (s .below-held i b holds) ∙ refine-here
 
-    start-here : nodePlace t f ≡ refineAt
+    start-here : nodePlace t f ≡ refineAt (suc l) i
     start-here = place-start t (s .start-owned b f first) first ∙ machine-here
 
     -- it is taken
-    pub refine-may : TakenRefine (grown t refineAt) i b f
+    pub refine-may : TakenRefine (grown t (refineAt (suc l) i)) i b f
     unfolding grown
     refine-may =
         let (m, own) = s .holder-used b i (s .below-held i b holds) in
-        let early : nodePlace t i < level t i * 512 + 256 = node-early s own in
+        let early : nodePlace t i < refineAt (level t i) 0 = node-early s own in
         record {
           node-range = small;
           machine-range = start-range t s b f first .0;
           first-range = start-range t s b f first .1;
-          node-used = (m, passed-in refineAt (nodePlace t i) (t .owner i) (omega arith) ∙ own);
-          machine-new = passed-out refineAt (machinePlace t b) (t .start b) (omega (arith, machine-here));
-          first-new = passed-out refineAt (nodePlace t f) (t .owner f) (omega (arith, start-here));
-          node-plain = passed-out refineAt (refinePlace t i) (t .below i) (omega (arith, refine-here));
+          node-used = (m, passed-in (refineAt (suc l) i) (nodePlace t i) (t .owner i) (omega arith) ∙ own);
+          machine-new = passed-out (refineAt (suc l) i) (machinePlace t b) (t .start b) (omega (arith, machine-here));
+          first-new = passed-out (refineAt (suc l) i) (nodePlace t f) (t .owner f) (omega (arith, start-here));
+          node-plain = passed-out (refineAt (suc l) i) (refinePlace t i) (t .below i) (omega (arith, refine-here));
           not-lowest = λ lowest.
-              omega (arith, level-refined s own holds, level-less (grown t refineAt) t (grown-above t refineAt) i);
+              omega (arith, level-refined s own holds, level-less (grown t (refineAt (suc l) i)) t (grown-above t (refineAt (suc l) i)) i);
         }
 
     -- and what it leaves
-    pub refine-done : edited (grown t refineAt) (refine i b f) ≡ grown t (suc refineAt)
+    pub refine-done : edited (grown t (refineAt (suc l) i)) (refine i b f) ≡ grown t (suc (refineAt (suc l) i))
     unfolding grown edited
     refine-done =
-        same-tree (edited (grown t refineAt) (refine i b f)) (grown t (suc refineAt)) refl
-        (passed-put refineAt (nodePlace t) (t .owner) f b (s .start-owned b f first) start-here
+        same-tree (edited (grown t (refineAt (suc l) i)) (refine i b f)) (grown t (suc (refineAt (suc l) i))) refl
+        (passed-put (refineAt (suc l) i) (nodePlace t) (t .owner) f b (s .start-owned b f first) start-here
         (λ k m own here.
         let (start, held, level-i) = node-at-refine s l i small own here in
         let same : m ≡ b = only-held held in
         some-same (rw same at start) first))
-        (passed-put refineAt (refinePlace t) (t .below) i b holds refine-here (λ k a e here. refine-at-refine s l i small e here .0))
-        (passed-put refineAt (machinePlace t) (t .start) b f first machine-here
+        (passed-put (refineAt (suc l) i) (refinePlace t) (t .below) i b holds refine-here
+        (λ k a e here. refine-at-refine s l i small e here .0))
+        (passed-put (refineAt (suc l) i) (machinePlace t) (t .start) b f first machine-here
         (λ k a e here. only-held (machine-at-refine s l i small here .0)))
-        (passed-put refineAt (machinePlace t) (t .holder) b i (s .below-held i b holds) machine-here
+        (passed-put (refineAt (suc l) i) (machinePlace t) (t .holder) b i (s .below-held i b holds) machine-here
         (λ k a e here. only-held (machine-at-refine s l i small here .0)))
-        (λ n x. passed-still refineAt (arrowPlace n x) (t .transition n x) (λ a e. no-arrow n x))
+        (λ n x. passed-still (refineAt (suc l) i) (arrowAt n x) (t .transition n x) (λ a e. no-arrow n x))
 
 -- ---- the arrows
 
 module _ {t : Tree} (s : Sound t) (n x : ℕ) (small : n < nodes) (known : x < commands) where
-  -- the place of node n and command x among the arrows
-  abbrev arrowAt : ℕ
-  arrowAt = 4608 + n * 16 + x
-
-  -- no node, refinement or machine comes there
-  node-past : (k m : ℕ) → t .owner k ≡ some m → nodePlace t k ≡ arrowAt → ⊥
+  -- at the place of node n and command x among the arrows no node, refinement or machine comes
+  node-past : (k m : ℕ) → t .owner k ≡ some m → nodePlace t k ≡ arrowAt n x → ⊥
   node-past k m own here = omega (arith, node-all s own)
 
-  refine-past : (k b : ℕ) → t .below k ≡ some b → refinePlace t k ≡ arrowAt → ⊥
+  refine-past : (k b : ℕ) → t .below k ≡ some b → refinePlace t k ≡ arrowAt n x → ⊥
   refine-past k b holds here = omega (arith, refine-all s holds)
 
-  machine-past : (m f : ℕ) → t .start m ≡ some f → machinePlace t m ≡ arrowAt → ⊥
+  machine-past : (m f : ℕ) → t .start m ≡ some f → machinePlace t m ≡ arrowAt n x → ⊥
   machine-past m f used here = omega (arith, machine-all s used)
 
   -- the node has no transition for the command: the tree stays
-  pub arrow-none : t .transition n x ≡ none → grown t arrowAt ≡ grown t (suc arrowAt)
+  pub arrow-none : t .transition n x ≡ none → grown t (arrowAt n x) ≡ grown t (suc (arrowAt n x))
   arrow-none free =
-      grown-still s arrowAt node-past refine-past machine-past
+      grown-still s (arrowAt n x) node-past refine-past machine-past
       (λ k y a e here.
       let (node, command) = arrow-at-arrow n x k y known (s .transition-range k y a e .0) here in
       none-some free (rw (node, command) at e))
 
   module _ {a : Transition} (drawn : t .transition n x ≡ some a) where
     -- it is taken
-    pub arrow-may : TakenArrow (grown t arrowAt) n x (a .target)
+    pub arrow-may : TakenArrow (grown t (arrowAt n x)) n x (a .target)
     unfolding grown
     arrow-may =
         let (m, own, there) = s .transition-owned n x a drawn in
@@ -329,35 +324,36 @@ module _ {t : Tree} (s : Sound t) (n x : ℕ) (small : n < nodes) (known : x < c
           target-range = target-range t s n x a drawn .1;
           one-machine = (
             m,
-            passed-in arrowAt (nodePlace t n) (t .owner n) (omega (arith, node-all s own)) ∙ own,
-            passed-in arrowAt (nodePlace t (a .target)) (t .owner (a .target)) (omega (arith, node-all s there)) ∙ there,
+            passed-in (arrowAt n x) (nodePlace t n) (t .owner n) (omega (arith, node-all s own)) ∙ own,
+            passed-in (arrowAt n x) (nodePlace t (a .target)) (t .owner (a .target)) (omega (arith, node-all s there)) ∙ there,
           );
         }
 
     -- the transitions after it
-    arrow-put : (k y : ℕ) → withTransition (grown t arrowAt) n x (some a) .transition k y ≡ grown t (suc arrowAt) .transition k y
-    unfolding grown withTransition arrowPlace
+    arrow-put : (k y : ℕ)
+        → withTransition (grown t (arrowAt n x)) n x (some a) .transition k y ≡ grown t (suc (arrowAt n x)) .transition k y
+    unfolding grown withTransition
     arrow-put k y =
-        let old : ℕ → ℕ → Option Transition = grown t arrowAt .transition in
+        let old : ℕ → ℕ → Option Transition = grown t (arrowAt n x) .transition in
         let new : ℕ → Option Transition = put (old n) x (some a) in
         ⊎-elim
         (λ same.
-        subst (λ (i : ℕ). put old n new i y ≡ grown t (suc arrowAt) .transition i y) (sym same)
+        subst (λ (i : ℕ). put old n new i y ≡ grown t (suc (arrowAt n x)) .transition i y) (sym same)
         (ap (λ (g : ℕ → Option Transition). g y) (put-same old n new)
-        ∙ passed-put arrowAt (arrowPlace n) (t .transition n) x a drawn refl
+        ∙ passed-put (arrowAt n x) (arrowAt n) (t .transition n) x a drawn refl
         (λ j b e here. arrow-at-arrow n x n j known (s .transition-range n j b e .0) here .1) y))
         (λ other.
         ap (λ (g : ℕ → Option Transition). g y) (put-other old n new k other)
-        ∙ passed-still arrowAt (arrowPlace k y) (t .transition k y)
+        ∙ passed-still (arrowAt n x) (arrowAt k y) (t .transition k y)
         (λ b e here. other (arrow-at-arrow n x k y known (s .transition-range k y b e .0) here .0))) (equal-or-not k n)
 
     -- and what it leaves
-    pub arrow-done : edited (grown t arrowAt) (arrow n x (a .target) (a .cost)) ≡ grown t (suc arrowAt)
+    pub arrow-done : edited (grown t (arrowAt n x)) (arrow n x (a .target) (a .cost)) ≡ grown t (suc (arrowAt n x))
     unfolding grown edited withTransition
     arrow-done =
-        same-tree (edited (grown t arrowAt) (arrow n x (a .target) (a .cost))) (grown t (suc arrowAt)) refl
-        (λ k. passed-still arrowAt (nodePlace t k) (t .owner k) (node-past k))
-        (λ k. passed-still arrowAt (refinePlace t k) (t .below k) (refine-past k))
-        (λ m. passed-still arrowAt (machinePlace t m) (t .start m) (machine-past m))
-        (λ m. passed-still arrowAt (machinePlace t m) (t .holder m) (λ h e. machine-past m _ (s .held-used m h e .1)))
+        same-tree (edited (grown t (arrowAt n x)) (arrow n x (a .target) (a .cost))) (grown t (suc (arrowAt n x))) refl
+        (λ k. passed-still (arrowAt n x) (nodePlace t k) (t .owner k) (node-past k))
+        (λ k. passed-still (arrowAt n x) (refinePlace t k) (t .below k) (refine-past k))
+        (λ m. passed-still (arrowAt n x) (machinePlace t m) (t .start m) (machine-past m))
+        (λ m. passed-still (arrowAt n x) (machinePlace t m) (t .holder m) (λ h e. machine-past m _ (s .held-used m h e .1)))
         arrow-put

@@ -33,11 +33,13 @@ level-refined s {n} {m} {b} own holds =
     omega (arith, level-deep s own way, deep-small s lower (deep-below s own holds way))
 
 -- a tree with fewer nodes above has no longer paths
-pathF-less : (u t : Tree) → ((n h : ℕ) → above u n ≡ some h → above t n ≡ some h) → (k n : ℕ) → length (pathF k u n) ≤ length (pathF k t n)
+pathF-less : (u t : Tree) → ((n h : ℕ) → above u n ≡ some h → above t n ≡ some h) → (k n : ℕ)
+    → length (pathF k u n) ≤ length (pathF k t n)
 unfolding pathF
 pathF-less u t fewer zero n = omega arith
 pathF-less u t fewer (suc k) n =
-    ⊎-elim (λ top. rw top (omega arith)) (λ up. let (h, e) = up in rw (e, fewer n h e) (omega (arith, pathF-less u t fewer k h))) (present (above u n))
+    ⊎-elim (λ top. rw top (omega arith))
+    (λ up. let (h, e) = up in rw (e, fewer n h e) (omega (arith, pathF-less u t fewer k h))) (present (above u n))
 
 -- and so no lower nodes
 pub level-less : (u t : Tree) → ((n h : ℕ) → above u n ≡ some h → above t n ≡ some h) → (n : ℕ) → level u n ≤ level t n

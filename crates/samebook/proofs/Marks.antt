@@ -46,7 +46,8 @@ begin-opens t r m n =
     node false v = refl
 
 -- an edit that touches the machines that it brings keeps rows as an opening has them
-stays-open : (t : Tree) (e : Edit) → ((p : ℕ) → usedMachine (edited t e) p ≡ true → (touches t e p || usedMachine t p) ≡ true) → StaysOpen t e
+stays-open : (t : Tree) (e : Edit) → ((p : ℕ) → usedMachine (edited t e) p ≡ true → (touches t e p || usedMachine t p) ≡ true)
+    → StaysOpen t e
 unfolding editedRows withStale openRows
 stays-open t e brought =
     same-rows (editedRows t e (openRows t)) (openRows (edited t e)) (λ p. and-follows (usedMachine (edited t e) p) (brought p))

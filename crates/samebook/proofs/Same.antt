@@ -1,9 +1,9 @@
 -- Demand 2, its last clause: the stream that Write gives for a book, loaded into any holding whose book is well formed and sheet true,
 -- leaves the same book, every machine in use marked and all blank. Assumes nothing.
-use mathlib.Core.Path.{_≡_, refl, sym, ap, subst, _∙_}
-use mathlib.Core.Logic.{_⊎_, inl, inr, ⊎-elim}
-use mathlib.Core.List.{List, [], _∷_, _++_, List-discrete}
-use Prim.Native.Nat.{ℕ, _<_}
+use mathlib.Core.Path.{_≡_, sym, ap, _∙_}
+use mathlib.Core.Logic.{inl, inr, ⊎-elim}
+use mathlib.Core.List.{List, [], _∷_, List-discrete}
+use Prim.Native.Nat.{ℕ}
 use native.Mathlib.Decide.{ℕ-discrete}
 use native.Mathlib.Omega.{arith}
 use lib.ListN.{length, getD, take, drop}
@@ -47,8 +47,8 @@ wrote book out out′ size (inr (long, inr (formed, inr (room, done)))) =
     (formed, same, rw bytes (take-at (written (treeOf book)) (drop (length (written (treeOf book))) out) size (sym same)))
 
 -- what Load does where it refuses nothing before the first command
-loads : (other sheet stream : List ℕ) {book′ sheet′ : List ℕ} {answer : LoadAnswer} → WellFormed other → TrueSheet (treeOf other) sheet
-    → LoadSays other sheet stream answer book′ sheet′
+loads : (other sheet stream : List ℕ) {book′ sheet′ : List ℕ} {answer : LoadAnswer} → WellFormed other
+    → TrueSheet (treeOf other) sheet → LoadSays other sheet stream answer book′ sheet′
     → LoadDone (treeOf other) (rowsOf sheet) (load (treeOf other) stream) answer book′ sheet′
 loads other sheet stream formed true-sheet (inl refused) =
     absurd (⊎-elim (λ wrong. wrong (formed .length)) (λ wrong. wrong (true-sheet .length)) (refused .0))
@@ -62,19 +62,22 @@ back : (u : Tree) {r : Rows} {book book′ sheet′ : List ℕ} {answer : LoadAn
     → (answer .bytes ≡ length (written (treeOf book))) × (answer .number ≡ 0) × (book′ ≡ book)
     × (sheet′ ≡ encodeRows (openRows (treeOf book)))
 back u {r} {book} formed done =
-    let w : WrittenBack (treeOf book) u = written-back (formed .sound) u in
-    (ap (λ (a : LoadAnswer). a .bytes) (done .answered) ∙ w .bytes,
-    ap (λ (a : LoadAnswer). a .number) (done .answered) ∙ w .number,
-    done .book ∙ ap encode (w .tree) ∙ well-formed-words book formed,
-    done .sheet ∙ ap encodeRows (w .rows r (done .rows) (done .done)))
+    let w : WrittenBack (treeOf book) u = written-back (formed .sound) u in (
+      ap (λ (a : LoadAnswer). a .bytes) (done .answered) ∙ w .bytes,
+      ap (λ (a : LoadAnswer). a .number) (done .answered) ∙ w .number,
+      done .book ∙ ap encode (w .tree) ∙ well-formed-words book formed,
+      done .sheet ∙ ap encodeRows (w .rows r (done .rows) (done .done)),
+    )
 
 -- a Write that gives a stream has been lent a well-formed book; the equations need no more than that it is not ill formed
 pub same-book : SameBook
 same-book book out out′ other sheet book′ sheet′ size answer says formed true-sheet load-says =
     let (not-ill, counted, stream) = wrote book out out′ size says in
     let done : LoadDone (treeOf other) (rowsOf sheet) (load (treeOf other) (written (treeOf book))) answer book′ sheet′ =
-        rw stream at (loads other sheet (take size out′) formed true-sheet load-says) in
-    (stable (ℕ-discrete (answer .bytes) size) (λ off. not-ill (λ well. off (back (treeOf other) well done .0 ∙ sym counted))),
-    stable (ℕ-discrete (answer .number) 0) (λ off. not-ill (λ well. off (back (treeOf other) well done .1))),
-    stable (List-discrete ℕ-discrete book′ book) (λ off. not-ill (λ well. off (back (treeOf other) well done .2))),
-    stable (List-discrete ℕ-discrete sheet′ (encodeRows (openRows (treeOf book)))) (λ off. not-ill (λ well. off (back (treeOf other) well done .3))))
+    rw stream at (loads other sheet (take size out′) formed true-sheet load-says) in (
+      stable (ℕ-discrete (answer .bytes) size) (λ off. not-ill (λ well. off (back (treeOf other) well done .0 ∙ sym counted))),
+      stable (ℕ-discrete (answer .number) 0) (λ off. not-ill (λ well. off (back (treeOf other) well done .1))),
+      stable (List-discrete ℕ-discrete book′ book) (λ off. not-ill (λ well. off (back (treeOf other) well done .2))),
+      stable (List-discrete ℕ-discrete sheet′ (encodeRows (openRows (treeOf book))))
+          (λ off. not-ill (λ well. off (back (treeOf other) well done .3))),
+    )

@@ -41,11 +41,13 @@ pub data Takes : Tree → List ℕ → List Command → Tree → Type 0 where
       → Takes (edited t e) rest cs u → Takes t (bytes ++ rest) (edit e ∷ cs) u
 
 -- one command
-pub takes-one : {t u : Tree} {e : Edit} {bytes : List ℕ} → Step t e bytes → StaysOpen t e → edited t e ≡ u → Takes t bytes (edit e ∷ []) u
+pub takes-one : {t u : Tree} {e : Edit} {bytes : List ℕ} → Step t e bytes → StaysOpen t e → edited t e ≡ u
+    → Takes t bytes (edit e ∷ []) u
 takes-one {t} {u} {e} {bytes} s o same = rw append-nil at (subst (Takes t (bytes ++ []) (edit e ∷ [])) same (then s o done))
 
 -- two such streams, one after the other
-pub takes-both : {t u v : Tree} {xs ys : List ℕ} {cs ds : List Command} → Takes t xs cs u → Takes u ys ds v → Takes t (xs ++ ys) (cs ++ ds) v
+pub takes-both : {t u v : Tree} {xs ys : List ℕ} {cs ds : List Command} → Takes t xs cs u → Takes u ys ds v
+    → Takes t (xs ++ ys) (cs ++ ds) v
 takes-both done w = w
 takes-both (then s o first) w = rw append-assoc (then s o (takes-both first w))
 
