@@ -540,7 +540,7 @@ decode-range op bytes h =
     (either-way W (eqb op 0x15) tt (either-way W (eqb op 0x16) tt (either-way W (eqb op 0x17) tt tt)))))))
 
 -- the rest of a list of bytes is one
-drop-bytes : (size : ℕ) (bytes : List ℕ) → Bytes bytes → Bytes (drop size bytes)
+pub drop-bytes : (size : ℕ) (bytes : List ℕ) → Bytes bytes → Bytes (drop size bytes)
 drop-bytes zero bytes h = h
 drop-bytes (suc n) [] h = h
 drop-bytes (suc n) (b ∷ rest) h = drop-bytes n rest (h .1)
