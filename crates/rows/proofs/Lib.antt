@@ -1,2 +1,4 @@
 pub mod Locality
 pub mod Touched
+pub mod Open
+pub mod Edits
