@@ -452,7 +452,7 @@ unfolding within anyOf
 within-up s n own held = rw (path-on s own held)
 
 -- one of two tests holds
-pub either : {a b : Bool} → (a || b) ≡ true → (a ≡ true) ⊎ (b ≡ true)
+either : {a b : Bool} → (a || b) ≡ true → (a ≡ true) ⊎ (b ≡ true)
 either {a = true} e = inl refl
 either {a = false} e = inr e
 

@@ -18,7 +18,8 @@ use Rattle.definitions.specs.Open.{openRows}
 use Rattle.definitions.proofs.Options.{bind-some, none-some, some-same, true-false, equal-or-not}
 use Rattle.definitions.proofs.Commands.{neither, not-true-false, over-climbs, climbs-over, HeldWithin, free-test}
 use Rattle.definitions.proofs.Commands.{Changed, Begun, Added, Refined, Removed, OneTransition, Started, Crowned, Does, does}
-use Rattle.definitions.proofs.Commands.{TakenRefine, TakenCrown, taken-add, taken-refine, taken-remove, taken-arrow, taken-clear, taken-crown}
+use Rattle.definitions.proofs.Commands.{TakenRefine, TakenCrown, taken-add, taken-refine, taken-remove}
+use Rattle.definitions.proofs.Commands.{taken-arrow, taken-clear, taken-crown}
 use Rattle.definitions.proofs.Kept.{kept-down, CostInRange, edited-sound}
 use Rattle.rows.proofs.Locality.{SameMachine}
 use Rattle.rows.proofs.Open.{open-true}
@@ -45,12 +46,12 @@ parts-parent t m held own = rw held own
 
 module _ {t : Tree} (s : Sound t) {n m : ℕ} (own : t .owner n ≡ some m) where
   -- a node's own machine is over it
-  over-own : over t m n ≡ true
+  pub over-own : over t m n ≡ true
   unfolding iterate
   over-own = climbs-over s m own 0 refl
 
   -- the machine just above a machine over it is over it
-  over-parent : (q p : ℕ) → over t q n ≡ true → parent t q ≡ some p → over t p n ≡ true
+  pub over-parent : (q p : ℕ) → over t q n ≡ true → parent t q ≡ some p → over t p n ≡ true
   over-parent q p ov above =
       let (j, climb) = over-climbs s q own ov in
       climbs-over s p own (suc j) (iterate-last (parent t) j m climb above)
@@ -141,12 +142,15 @@ refine-spares : {t : Tree} → Sound t → {n m f : ℕ} {u : Tree} {r q : Rows}
 refine-spares {t} s {n} {m} {f} {u} taken law =
     let (o, own) = taken .node-used in
     record {
-      up = λ q p on above. let (h, held, up) = parent-parts u q above in rw (over-up q p h on held up (equal-or-not q m)) (or-true (eqb p m));
+      up = λ q p on above.
+          let (h, held, up) = parent-parts u q above in
+          rw (over-up q p h on held up (equal-or-not q m)) (or-true (eqb p m));
       same = λ p g used off.
           let (old, away) = neither off in
           let other : p ≡ m → ⊥ = eqb-false p m old in
           fields-same (law .start .elsewhere p other) (λ k e. changed-kept (law .owner) (taken .first-new) k e)
-          (λ k e. changed-old (law .owner) k other e) (λ k e. law .below .elsewhere k (not-node s own away e)) (λ k x e. law .transition k x);
+          (λ k e. changed-old (law .owner) k other e) (λ k e. law .below .elsewhere k (not-node s own away e))
+          (λ k x e. law .transition k x);
     }
   where
     over-up : (q p h : ℕ) → (eqb q m || over t q n) ≡ true → u .holder q ≡ some h → u .owner h ≡ some p → (q ≡ m) ⊎ (q ≡ m → ⊥)
@@ -202,8 +206,8 @@ start-spares : {t : Tree} → Sound t → {n m : ℕ} {u : Tree} {r q : Rows} �
 start-spares {t} s {n} {m} {u} own law =
     over-spares s u own (λ q h p held up. (sym (law .holder q) ∙ held, sym (law .owner h) ∙ up))
     (λ p g used off.
-    fields-same (law .start .elsewhere p (not-owner s own off)) (λ k e. law .owner k ∙ e) (λ k e. sym (law .owner k) ∙ e) (λ k e. law .below k)
-    (λ k x e. law .transition k x))
+    fields-same (law .start .elsewhere p (not-owner s own off)) (λ k e. law .owner k ∙ e) (λ k e. sym (law .owner k) ∙ e)
+    (λ k e. law .below k) (λ k x e. law .transition k x))
 
 -- crown: nothing holds the new machine, and every other is as it was
 crown-spares : {t : Tree} → Sound t → {m n : ℕ} {u : Tree} {r q : Rows} → TakenCrown t m n → Crowned t m n u r q → Spares t u (λ p. eqb p m)

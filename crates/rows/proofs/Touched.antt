@@ -60,7 +60,7 @@ module _ {t u : Tree} (sound-t : Sound t) (sound-u : Sound u) {touched : ℕ →
       ⊎-elim (λ on. absurd (true-false (spares .up m p on above) off)) (λ e. e) (decided (touched m))
 
   -- a machine in use that is not touched has the row that it had
-  row-kept : (r : Rows) (m s : ℕ) → u .start m ≡ some s → touched m ≡ false → SameRow t u r (withStale u touched r) m
+  pub row-kept : (r : Rows) (m s : ℕ) → u .start m ≡ some s → touched m ≡ false → SameRow t u r (withStale u touched r) m
   unfolding withStale
   row-kept r m s used off =
       let same = spares .same m s used off in
