@@ -31,7 +31,7 @@ pub filled-below : (t : Tree) (r : Rows) → ((m p : ℕ) → r .stale m ≡ tru
 filled-below t r up m p above full = ⊎-elim (λ stale. absurd (true-false (up m p stale above) full)) (λ e. e) (decided (r .stale m))
 
 -- the moves of a machine stay in it
-move-owned : {t : Tree} → Sound t → (r : Rows) (n x : ℕ) {m : ℕ} {b : Arrival} → t .owner n ≡ some m → move t r n x ≡ some b → t .owner (b .node) ≡ some m
+pub move-owned : {t : Tree} → Sound t → (r : Rows) (n x : ℕ) {m : ℕ} {b : Arrival} → t .owner n ≡ some m → move t r n x ≡ some b → t .owner (b .node) ≡ some m
 move-owned {t} s r n x {m} own-n e =
     let parts = move-parts t r n x e in
     subst (λ (v : ℕ). t .owner v ≡ some m) (parts .target) (counting-owned s n x (parts .transition) (parts .has) own-n)
