@@ -54,60 +54,62 @@ changed-grid rows columns n x v f w after hn hx here other i j =
 
 -- ---- one word of a section is written
 
--- two places of a section that are equal belong to the same record and are the same place of it
-place-same : (base width n k i j : ℕ) → k < width → j < width → base + i * width + j ≡ base + n * width + k → (i ≡ n) × (j ≡ k)
-place-same base width n k i j hk hj e =
-    let at : i * width + j ≡ n * width + k = omega arith in (
-      sym (place-record width i j hj) ∙ ap (λ p. p / width) at ∙ place-record width n k hk,
-      sym (place-element width i j hj) ∙ ap (λ p. p % width) at ∙ place-element width n k hk,
-    )
+-- two places of a table that are equal belong to the same record and are the same place of it
+pub place-same : (width n k i j : ℕ) → k < width → j < width → i * width + j ≡ n * width + k → (i ≡ n) × (j ≡ k)
+place-same width n k i j hk hj e = (
+  sym (place-record width i j hj) ∙ ap (λ p. p / width) e ∙ place-record width n k hk,
+  sym (place-element width i j hj) ∙ ap (λ p. p % width) e ∙ place-element width n k hk,
+)
 
--- The section begins at `base` and has records of `width` words; word k of record n is written.
-module _ (base width : ℕ) (ws : List ℕ) (n k v : ℕ) (hk : k < width) (inside : base + n * width + k < length ws) where
+-- records of `width` words have each word j of each record i at a place of its own, `place i j`
+abbrev pub Apart : (ℕ → ℕ → ℕ) → ℕ → Type 0
+Apart place width = (n k i j : ℕ) → k < width → j < width → place i j ≡ place n k → (i ≡ n) × (j ≡ k)
+
+-- word k of record n is written
+module _ (place : ℕ → ℕ → ℕ) (width : ℕ) (apart : Apart place width) (ws : List ℕ) (n k v : ℕ) (hk : k < width)
+    (inside : place n k < length ws) where
   -- the word written
-  pub stored : getD (set ws (base + n * width + k) v) (base + n * width + k) 0 ≡ v
-  stored = getD-set-same ws (base + n * width + k) v 0 inside
+  pub stored : getD (set ws (place n k) v) (place n k) 0 ≡ v
+  stored = getD-set-same ws (place n k) v 0 inside
 
-  -- any other word of the section
-  pub unstored : (i j : ℕ) → j < width → (i ≡ n → j ≡ k → ⊥)
-      → getD (set ws (base + n * width + k) v) (base + i * width + j) 0 ≡ getD ws (base + i * width + j) 0
-  unstored i j hj apart =
-      getD-set-other ws (base + n * width + k) (base + i * width + j) v 0
-      (λ e. let same = place-same base width n k i j hk hj e in apart (same .0) (same .1))
+  -- any other word of the records
+  pub unstored : (i j : ℕ) → j < width → (i ≡ n → j ≡ k → ⊥) → getD (set ws (place n k) v) (place i j) 0 ≡ getD ws (place i j) 0
+  unstored i j hj other =
+      getD-set-other ws (place n k) (place i j) v 0
+      (λ e.
+      let both = apart n k i j hk hj e in
+      other (both .0) (both .1))
 
   -- what is read at place k of each record: what v says at record n, and else as before
   pub field-put : {A : Type 0} (limit : ℕ) (f : ℕ → A) (d : A) → n < limit
-      → (i : ℕ) → cond (ltb i limit) (f (getD (set ws (base + n * width + k) v) (base + i * width + k) 0)) d
-      ≡ put (λ a. cond (ltb a limit) (f (getD ws (base + a * width + k) 0)) d) n (f v) i
+      → (i : ℕ) → cond (ltb i limit) (f (getD (set ws (place n k) v) (place i k) 0)) d
+      ≡ put (λ a. cond (ltb a limit) (f (getD ws (place a k) 0)) d) n (f v) i
   field-put limit f d hn =
-      changed limit n v f d (λ a. getD ws (base + a * width + k) 0)
-      (λ a. getD (set ws (base + n * width + k) v) (base + a * width + k) 0) hn stored
+      changed limit n v f d (λ a. getD ws (place a k) 0) (λ a. getD (set ws (place n k) v) (place a k) 0) hn stored
       (λ i hi ne. unstored i k hk (λ p q. ne p))
 
   -- and at another place of each record: as before
   pub field-kept : {A : Type 0} (limit j : ℕ) (f : ℕ → A) (d : A) → j < width → (j ≡ k → ⊥)
-      → (i : ℕ) → cond (ltb i limit) (f (getD (set ws (base + n * width + k) v) (base + i * width + j) 0)) d
-      ≡ cond (ltb i limit) (f (getD ws (base + i * width + j) 0)) d
+      → (i : ℕ) → cond (ltb i limit) (f (getD (set ws (place n k) v) (place i j) 0)) d ≡ cond (ltb i limit) (f (getD ws (place i j) 0)) d
   field-kept limit j f d hj ne i = kept limit i f d (λ hi. unstored i j hj (λ p q. ne q))
 
   -- what is read at the places from `off` on of each record, where k is place x of these: what v says at record n and x, and else as before
   pub grid-put : {A : Type 0} (rows columns off x : ℕ) (f : ℕ → Option A) → n < rows → x < columns → off + columns ≤ width → k ≡ off + x
-      → (i j : ℕ) → under rows i (under columns j (f (getD (set ws (base + n * width + k) v) (base + i * width + (off + j)) 0)))
-      ≡ put (λ a b. under rows a (under columns b (f (getD ws (base + a * width + (off + b)) 0)))) n
-      (put (λ b. under rows n (under columns b (f (getD ws (base + n * width + (off + b)) 0)))) x (f v)) i j
+      → (i j : ℕ) → under rows i (under columns j (f (getD (set ws (place n k) v) (place i (off + j)) 0)))
+      ≡ put (λ a b. under rows a (under columns b (f (getD ws (place a (off + b)) 0)))) n
+      (put (λ b. under rows n (under columns b (f (getD ws (place n (off + b)) 0)))) x (f v)) i j
   grid-put rows columns off x f hn hx within e =
-      changed-grid rows columns n x v f (λ a b. getD ws (base + a * width + (off + b)) 0)
-      (λ a b. getD (set ws (base + n * width + k) v) (base + a * width + (off + b)) 0) hn hx
-      (ap (λ p. getD (set ws (base + n * width + k) v) (base + n * width + p) 0) (sym e) ∙ stored)
-      (λ i j hj apart. unstored i (off + j) (omega arith) (λ p q. apart p (omega arith)))
+      changed-grid rows columns n x v f (λ a b. getD ws (place a (off + b)) 0) (λ a b. getD (set ws (place n k) v) (place a (off + b)) 0) hn
+      hx (ap (λ p. getD (set ws (place n k) v) (place n p) 0) (sym e) ∙ stored)
+      (λ i j hj other. unstored i (off + j) (omega arith) (λ p q. other p (omega arith)))
 
   -- and where k is none of these: as before
   pub grid-kept : {A : Type 0} (rows columns off : ℕ) (f : ℕ → Option A) → off + columns ≤ width → ((x : ℕ) → x < columns → off + x ≡ k → ⊥)
-      → (i j : ℕ) → under rows i (under columns j (f (getD (set ws (base + n * width + k) v) (base + i * width + (off + j)) 0)))
-      ≡ under rows i (under columns j (f (getD ws (base + i * width + (off + j)) 0)))
+      → (i j : ℕ) → under rows i (under columns j (f (getD (set ws (place n k) v) (place i (off + j)) 0)))
+      ≡ under rows i (under columns j (f (getD ws (place i (off + j)) 0)))
   unfolding under
-  grid-kept rows columns off f within apart i j =
-      ap (under rows i) (kept columns j f none (λ hj. unstored i (off + j) (omega arith) (λ p q. apart j hj q)))
+  grid-kept rows columns off f within other i j =
+      ap (under rows i) (kept columns j f none (λ hj. unstored i (off + j) (omega arith) (λ p q. other j hj q)))
 
 -- ---- a row of a grid is cleared, place by place
 

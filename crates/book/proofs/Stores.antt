@@ -14,20 +14,33 @@ use Rattle.definitions.specs.Book.{number, transitionOf, under, treeOf}
 use Rattle.definitions.specs.Edit.{withTransition}
 use Rattle.definitions.proofs.Words.{same-tree}
 use Rattle.book.specs.Fields.{Holds, withRoot, withMachineField, withNodeField, withTransitions, withoutTransitions}
-use Rattle.book.proofs.Places.{kept, field-put, field-kept, grid-put, grid-kept}
+use Rattle.book.proofs.Places.{kept, Apart, place-same, field-put, field-kept, grid-put, grid-kept}
 use Rattle.book.proofs.Places.{clearedTo, cleared-none, cleared-more, cleared-all, grid-past}
+
+-- where word k of a machine's record stands, and that each has a place of its own; the same of a node's
+abbrev machinePlace : ℕ → ℕ → ℕ
+machinePlace m k = machineBase + m * machineFields + k
+
+machine-apart : Apart machinePlace machineFields
+machine-apart m k i j hk hj e = place-same machineFields m k i j hk hj (omega arith)
+
+abbrev nodePlace : ℕ → ℕ → ℕ
+nodePlace n k = nodeBase + n * nodeFields + k
+
+node-apart : Apart nodePlace nodeFields
+node-apart n k i j hk hj e = place-same nodeFields n k i j hk hj (omega arith)
 
 -- a store before the nodes' words leaves what is read of them
 node-far : {A : Type 0} (ws : List ℕ) (p v : ℕ) → p < nodeBase → (f : ℕ → A) (n k : ℕ) → f (nodeWord (set ws p v) n k) ≡ f (nodeWord ws n k)
 unfolding nodeWord
-node-far ws p v h f n k = ap f (getD-set-other ws p (nodeBase + n * nodeFields + k) v 0 (omega arith))
+node-far ws p v h f n k = ap f (getD-set-other ws p (nodePlace n k) v 0 (omega arith))
 
 -- a store outside the machines' words leaves the numbers that are read of them
-machine-far : (ws : List ℕ) (p v k m : ℕ) → (m < machines → machineBase + m * machineFields + k ≡ p → ⊥)
+machine-far : (ws : List ℕ) (p v k m : ℕ) → (m < machines → machinePlace m k ≡ p → ⊥)
     → under machines m (number (machineWord (set ws p v) m k)) ≡ under machines m (number (machineWord ws m k))
 unfolding under machineWord
 machine-far ws p v k m apart =
-    kept machines m number none (λ hm. getD-set-other ws p (machineBase + m * machineFields + k) v 0 (apart hm))
+    kept machines m number none (λ hm. getD-set-other ws p (machinePlace m k) v 0 (apart hm))
 
 -- the root is written
 pub root-store : (ws : List ℕ) (m : ℕ) → length ws ≡ bookLength → treeOf (set ws 0 m) ≡ withRoot (treeOf ws) m
@@ -80,37 +93,37 @@ same-machines ws p v h owner below transition =
 
 -- a word of machine m's record is written
 pub machine-store : (ws : List ℕ) (m k v : ℕ) → length ws ≡ bookLength → m < machines → k < machineFields
-    → treeOf (set ws (machineBase + m * machineFields + k) v) ≡ withMachineField (treeOf ws) m k v
+    → treeOf (set ws (machinePlace m k) v) ≡ withMachineField (treeOf ws) m k v
 unfolding treeOf machineWord under
 machine-store ws m zero v l hm hk =
-    same-nodes ws (machineBase + m * machineFields + 0) v (omega arith) (omega arith)
-    (field-kept machineBase machineFields ws m 0 v hk (omega arith) machines 1 number none (omega arith) (omega arith))
-    (field-put machineBase machineFields ws m 0 v hk (omega arith) machines number none hm)
+    same-nodes ws (machinePlace m 0) v (omega arith) (omega arith)
+    (field-kept machinePlace machineFields machine-apart ws m 0 v hk (omega arith) machines 1 number none (omega arith) (omega arith))
+    (field-put machinePlace machineFields machine-apart ws m 0 v hk (omega arith) machines number none hm)
 machine-store ws m (suc zero) v l hm hk =
-    same-nodes ws (machineBase + m * machineFields + 1) v (omega arith) (omega arith)
-    (field-put machineBase machineFields ws m 1 v hk (omega arith) machines number none hm)
-    (field-kept machineBase machineFields ws m 1 v hk (omega arith) machines 0 number none (omega arith) (omega arith))
+    same-nodes ws (machinePlace m 1) v (omega arith) (omega arith)
+    (field-put machinePlace machineFields machine-apart ws m 1 v hk (omega arith) machines number none hm)
+    (field-kept machinePlace machineFields machine-apart ws m 1 v hk (omega arith) machines 0 number none (omega arith) (omega arith))
 machine-store ws m (suc (suc k)) v l hm hk = absurd (omega arith)
 
 -- a word of node n's record is written
 pub node-store : (ws : List ℕ) (n k v : ℕ) → length ws ≡ bookLength → n < nodes → k < nodeFields
-    → treeOf (set ws (nodeBase + n * nodeFields + k) v) ≡ withNodeField (treeOf ws) n k v
+    → treeOf (set ws (nodePlace n k) v) ≡ withNodeField (treeOf ws) n k v
 unfolding treeOf nodeWord under withTransition
 node-store ws n zero v l hn hk =
-    same-machines ws (nodeBase + n * nodeFields + 0) v (omega arith)
-    (field-put nodeBase nodeFields ws n 0 v hk (omega arith) nodes number none hn)
-    (field-kept nodeBase nodeFields ws n 0 v hk (omega arith) nodes 1 number none (omega arith) (omega arith))
-    (grid-kept nodeBase nodeFields ws n 0 v hk (omega arith) nodes commands 2 transitionOf (omega arith) (omega arith))
+    same-machines ws (nodePlace n 0) v (omega arith)
+    (field-put nodePlace nodeFields node-apart ws n 0 v hk (omega arith) nodes number none hn)
+    (field-kept nodePlace nodeFields node-apart ws n 0 v hk (omega arith) nodes 1 number none (omega arith) (omega arith))
+    (grid-kept nodePlace nodeFields node-apart ws n 0 v hk (omega arith) nodes commands 2 transitionOf (omega arith) (omega arith))
 node-store ws n (suc zero) v l hn hk =
-    same-machines ws (nodeBase + n * nodeFields + 1) v (omega arith)
-    (field-kept nodeBase nodeFields ws n 1 v hk (omega arith) nodes 0 number none (omega arith) (omega arith))
-    (field-put nodeBase nodeFields ws n 1 v hk (omega arith) nodes number none hn)
-    (grid-kept nodeBase nodeFields ws n 1 v hk (omega arith) nodes commands 2 transitionOf (omega arith) (omega arith))
+    same-machines ws (nodePlace n 1) v (omega arith)
+    (field-kept nodePlace nodeFields node-apart ws n 1 v hk (omega arith) nodes 0 number none (omega arith) (omega arith))
+    (field-put nodePlace nodeFields node-apart ws n 1 v hk (omega arith) nodes number none hn)
+    (grid-kept nodePlace nodeFields node-apart ws n 1 v hk (omega arith) nodes commands 2 transitionOf (omega arith) (omega arith))
 node-store ws n (suc (suc x)) v l hn hk =
-    same-machines ws (nodeBase + n * nodeFields + suc (suc x)) v (omega arith)
-    (field-kept nodeBase nodeFields ws n (suc (suc x)) v hk (omega arith) nodes 0 number none (omega arith) (omega arith))
-    (field-kept nodeBase nodeFields ws n (suc (suc x)) v hk (omega arith) nodes 1 number none (omega arith) (omega arith))
-    (grid-put nodeBase nodeFields ws n (suc (suc x)) v hk (omega arith) nodes commands 2 x transitionOf hn (omega arith) (omega arith)
+    same-machines ws (nodePlace n (suc (suc x))) v (omega arith)
+    (field-kept nodePlace nodeFields node-apart ws n (suc (suc x)) v hk (omega arith) nodes 0 number none (omega arith) (omega arith))
+    (field-kept nodePlace nodeFields node-apart ws n (suc (suc x)) v hk (omega arith) nodes 1 number none (omega arith) (omega arith))
+    (grid-put nodePlace nodeFields node-apart ws n (suc (suc x)) v hk (omega arith) nodes commands 2 x transitionOf hn (omega arith) (omega arith)
     (omega arith))
 
 -- ---- the same, of the code's indices
@@ -121,13 +134,13 @@ root-holds ws m l = record { length = length-set ws 0 m ∙ l; tree = root-store
 pub machine-holds : (ws : List ℕ) (m k v : ℕ) → length ws ≡ bookLength → m < machines → k < machineFields
     → Holds (set ws (1 + 2 * m + k) v) (withMachineField (treeOf ws) m k v)
 machine-holds ws m k v l hm hk =
-    let at : 1 + 2 * m + k ≡ machineBase + m * machineFields + k = omega arith in
+    let at : 1 + 2 * m + k ≡ machinePlace m k = omega arith in
     record { length = length-set ws (1 + 2 * m + k) v ∙ l; tree = rw at (machine-store ws m k v l hm hk) }
 
 pub node-holds : (ws : List ℕ) (n k v : ℕ) → length ws ≡ bookLength → n < nodes → k < nodeFields
     → Holds (set ws (129 + 18 * n + k) v) (withNodeField (treeOf ws) n k v)
 node-holds ws n k v l hn hk =
-    let at : 129 + 18 * n + k ≡ nodeBase + n * nodeFields + k = omega arith in
+    let at : 129 + 18 * n + k ≡ nodePlace n k = omega arith in
     record { length = length-set ws (129 + 18 * n + k) v ∙ l; tree = rw at (node-store ws n k v l hn hk) }
 
 -- ---- one store after the other
