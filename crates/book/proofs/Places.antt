@@ -25,6 +25,16 @@ kept limit i f d {v} {w} same = go (ltb i limit) refl
     go true e = ap f (same (ltb-true i limit e))
     go false e = refl
 
+-- and under two limits
+pub kept-grid : {A : Type 0} (rows columns i j : ℕ) (f : ℕ → Option A) {v w : ℕ} → (i < rows → j < columns → v ≡ w)
+    → under rows i (under columns j (f v)) ≡ under rows i (under columns j (f w))
+unfolding under
+kept-grid rows columns i j f {v} {w} same = go (ltb i rows) refl
+  where
+    go : (b : Bool) → ltb i rows ≡ b → cond b (under columns j (f v)) none ≡ cond b (under columns j (f w)) none
+    go true e = kept columns j f none (same (ltb-true i rows e))
+    go false e = refl
+
 -- where the words are the same but for v at n, what is read of them is the same but for what v says at n
 pub changed : {A : Type 0} (limit n v : ℕ) (f : ℕ → A) (d : A) (w after : ℕ → ℕ) → n < limit → after n ≡ v
     → ((i : ℕ) → i < limit → (i ≡ n → ⊥) → after i ≡ w i)
@@ -49,7 +59,7 @@ changed-grid rows columns n x v f w after hn hx here other i j =
     ∙ changed columns x v f none (w n) (after n) hx here (λ b hb ne. other n b hb (λ p q. ne q)) j))
     (λ ne.
     rw (ne-eqb i n ne)
-    (ap (λ o. cond (ltb i rows) o none) (kept columns j f none (λ hj. other i j hj (λ p q. ne p)))))
+    (kept-grid rows columns i j f (λ hi hj. other i j hj (λ p q. ne p))))
     (equal-or-not i n)
 
 -- ---- one word of a section is written
@@ -107,9 +117,8 @@ module _ (place : ℕ → ℕ → ℕ) (width : ℕ) (apart : Apart place width)
   pub grid-kept : {A : Type 0} (rows columns off : ℕ) (f : ℕ → Option A) → off + columns ≤ width → ((x : ℕ) → x < columns → off + x ≡ k → ⊥)
       → (i j : ℕ) → under rows i (under columns j (f (getD (set ws (place n k) v) (place i (off + j)) 0)))
       ≡ under rows i (under columns j (f (getD ws (place i (off + j)) 0)))
-  unfolding under
   grid-kept rows columns off f within other i j =
-      ap (under rows i) (kept columns j f none (λ hj. unstored i (off + j) (omega arith) (λ p q. other j hj q)))
+      kept-grid rows columns i j f (λ hi hj. unstored i (off + j) (omega arith) (λ p q. other j hj q))
 
 -- ---- a row of a grid is cleared, place by place
 

@@ -120,10 +120,11 @@ node-store ws n (suc zero) v l hn hk =
     (field-put nodePlace nodeFields node-apart ws n 1 v hk (omega arith) nodes number none hn)
     (grid-kept nodePlace nodeFields node-apart ws n 1 v hk (omega arith) nodes commands 2 transitionOf (omega arith) (omega arith))
 node-store ws n (suc (suc x)) v l hn hk =
-    same-machines ws (nodePlace n (suc (suc x))) v (omega arith)
-    (field-kept nodePlace nodeFields node-apart ws n (suc (suc x)) v hk (omega arith) nodes 0 number none (omega arith) (omega arith))
-    (field-kept nodePlace nodeFields node-apart ws n (suc (suc x)) v hk (omega arith) nodes 1 number none (omega arith) (omega arith))
-    (grid-put nodePlace nodeFields node-apart ws n (suc (suc x)) v hk (omega arith) nodes commands 2 x transitionOf hn (omega arith) (omega arith)
+    let k : ℕ = suc (suc x) in
+    same-machines ws (nodePlace n k) v (omega arith)
+    (field-kept nodePlace nodeFields node-apart ws n k v hk (omega arith) nodes 0 number none (omega arith) (omega arith))
+    (field-kept nodePlace nodeFields node-apart ws n k v hk (omega arith) nodes 1 number none (omega arith) (omega arith))
+    (grid-put nodePlace nodeFields node-apart ws n k v hk (omega arith) nodes commands 2 x transitionOf hn (omega arith) (omega arith)
     (omega arith))
 
 -- ---- the same, of the code's indices
