@@ -5,7 +5,7 @@ use mathlib.Core.Logic.{⊎-elim}
 use mathlib.Core.Bool.{Bool, true, false, cond, not, _&&_}
 use mathlib.Core.Option.{Option, none, some}
 use mathlib.Core.List.{List, [], _∷_, _++_, append-nil, append-assoc}
-use Prim.Native.Nat.{ℕ, zero, suc, _+_, _*_, _≤_, _<_}
+use Prim.Native.Nat.{ℕ, zero, suc, _+_, _*_, _^_, _≤_, _<_}
 use native.Mathlib.Nat.{suc-mul, add-zero}
 use native.Mathlib.Numerals.{add-one}
 use native.Mathlib.Omega.{arith}
@@ -31,6 +31,7 @@ option-short : {A B : Type 0} (w : ℕ) (f : A → List B) (o : Option A) → ((
 option-short w f none h = omega arith
 option-short w f (some a) h = h a
 
+-- the same for a test
 cond-short : {B : Type 0} (w : ℕ) (b : Bool) (xs : List B) → length xs ≤ w → length (cond b xs []) ≤ w
 cond-short w true xs h = h
 cond-short w false xs h = omega arith
@@ -97,22 +98,24 @@ joined-short w zero f h = omega arith
 joined-short w (suc k) f h =
     rw length-append (omega (arith, h 0, joined-short w k (λ i. f (suc i)) (λ i. h (suc i)), suc-mul k w))
 
--- no piece yet, and one piece more
+-- no piece yet
 pub stored-start : (f : ℕ → List ℕ) (out : List ℕ) (at : ℕ) → Stored out at (joined 0 f) at out
 unfolding joined
 stored-start f out at = stored-none out at refl
 
+-- one piece more
 pub stored-more : (f : ℕ → List ℕ) (i : ℕ) {out : List ℕ} {at p : ℕ} {mid : List ℕ} → Stored out at (joined i f) p mid
     → {q : ℕ} {out′ : List ℕ} → Stored mid p (f i) q out′ → Stored out at (joined (i + 1) f) q out′
 stored-more f i before step = rw (add-one, joined-suc i f) (stored-then before step)
 
 -- ---- the level of a node
 
--- the node that holds a node's machine: none for a node that is not in use, else its machine's
+-- no node holds the machine of a node that is not in use
 pub above-unused : (t : Tree) (n : ℕ) → t .owner n ≡ none → absent ≡ word (above t n)
 unfolding above word
 above-unused t n e = rw e
 
+-- the node that holds a node's machine is its machine's holder
 pub above-owned : (t : Tree) {n m : ℕ} → t .owner n ≡ some m → t .holder m ≡ above t n
 unfolding above
 above-owned t e = rw e
@@ -136,16 +139,18 @@ level-up {t} s n e =
     let (m, own, hold) = bind-some (t .owner n) (t .holder) e in
     level-on s own hold
 
--- it is from 1 to 8
+-- it is at least 1
 level-first : (t : Tree) (n : ℕ) → 0 < level t n
 unfolding level path pathF
 level-first t n = omega arith
 
+-- a path is no longer than its fuel
 path-small : (k : ℕ) (t : Tree) (n : ℕ) → length (pathF k t n) ≤ k
 unfolding pathF
 path-small zero t n = omega arith
 path-small (suc k) t n = omega (arith, option-short k (λ h. pathF k t h) (above t n) (λ h. path-small k t h))
 
+-- a level is at most 8
 level-small : (t : Tree) (n : ℕ) → level t n ≤ levels
 unfolding level path
 level-small t n = path-small levels t n
@@ -168,6 +173,7 @@ module _ {t : Tree} (s : Sound t) {n h count : ℕ} (c : Counted t n h count) wh
       omega (arith, level-top t (c .node) free, c .same)
 
   module _ (held : h ≡ absent → ⊥) where
+    -- the next holds the machine of the last
     up : above t (c .node) ≡ some h
     up = present-word (above t (c .node)) (c .next) held
 
@@ -183,21 +189,28 @@ module _ {t : Tree} (s : Sound t) {n h count : ℕ} (c : Counted t n h count) wh
     pub counted-more : {g : ℕ} → g ≡ word (above t h) → Counted t n g (count + 1)
     counted-more e = record { node = h; next = e; same = omega (arith, c .same, level-up s (c .node) up) }
 
--- the list of levels, filled from the front
+-- the list of levels, filled from the front: no level yet
 pub levels-none : (t : Tree) (list : List ℕ) → length list ≡ nodes → Levels t 0 list
 levels-none t list e = record { length = e; at = λ n h. absurd (omega arith) }
 
+-- every level
 pub levels-all : {t : Tree} (k : ℕ) {list : List ℕ} → Levels t k list → nodes ≤ k → Levels t nodes list
 levels-all k b all = record { length = b .length; at = λ n h. b .at n (omega arith) }
 
-pub levels-more : {t : Tree} {k : ℕ} {list : List ℕ} → Levels t k list → k < nodes → {l : ℕ} → l ≡ level t k → Levels t (k + 1) (set list k l)
+-- one level more
+pub levels-more : {t : Tree} {k : ℕ} {list : List ℕ} → Levels t k list → k < nodes → {l : ℕ} → l ≡ level t k
+    → Levels t (k + 1) (set list k l)
 levels-more {t} {k} {list} b small {l} e =
     record {
       length = length-set list k l ∙ b .length;
       at =
           λ n under.
           ⊎-elim
-          (λ same. ap (λ (j : ℕ). getD (set list k l) j 0) same ∙ getD-set-same list k l 0 (omega (arith, b .length)) ∙ e ∙ ap (level t) (sym same))
+          (λ same.
+          ap (λ (j : ℕ). getD (set list k l) j 0) same
+          ∙ getD-set-same list k l 0 (omega (arith, b .length))
+          ∙ e
+          ∙ ap (level t) (sym same))
           (λ other. getD-set-other list k n l 0 other ∙ b .at n (omega (arith, other)))
           (equal-or-not n k);
     }
@@ -205,36 +218,42 @@ levels-more {t} {k} {list} b small {l} e =
 -- ---- what is written of one node
 
 module _ (t : Tree) (l n : ℕ) where
-  -- add: nothing for a node that is not in use, one at another level, a start node
+  -- add: nothing for a node that is not in use
   pub add-unused : t .owner n ≡ none → writtenAdd t l n ≡ []
   unfolding writtenAdd
   add-unused e = rw e
 
+  -- nothing for one at another level
   pub add-other : (level t n ≡ l → ⊥) → writtenAdd t l n ≡ []
   unfolding writtenAdd
   add-other other = rw (ne-eqb (level t n) l other) (option-empty (λ m. []) (t .owner n) (λ m. refl))
 
   module _ {m f : ℕ} (own : t .owner n ≡ some m) (st : t .start m ≡ some f) (here : level t n ≡ l) where
+    -- nothing for a start node
     pub add-start : f ≡ n → writtenAdd t l n ≡ []
     unfolding writtenAdd
     add-start first = rw (own, st, eq-eqb f n first, eq-eqb (level t n) l here)
 
+    -- and else its bytes
     pub add-node : (f ≡ n → ⊥) → 0x11 ∷ m ∷ pair n ≡ writtenAdd t l n
     unfolding writtenAdd
     add-node other = sym (rw (own, st, ne-eqb f n other, eq-eqb (level t n) l here))
 
-  -- refine: nothing for a plain node, one at another level
+  -- refine: nothing for a plain node
   pub refine-plain : t .below n ≡ none → writtenRefine t l n ≡ []
   unfolding writtenRefine
   refine-plain e = rw e
 
+  -- nothing for one at another level
   pub refine-other : (level t n ≡ l → ⊥) → writtenRefine t l n ≡ []
   unfolding writtenRefine
   refine-other other =
       rw (ne-eqb (level t n) l other)
       (option-empty (λ m. option [] (λ f. []) (t .start m)) (t .below n) (λ m. option-empty (λ f. []) (t .start m) (λ f. refl)))
 
-  pub refine-node : {m f : ℕ} → t .below n ≡ some m → t .start m ≡ some f → level t n ≡ l → 0x12 ∷ (pair n ++ m ∷ pair f) ≡ writtenRefine t l n
+  -- and else its bytes
+  pub refine-node : {m f : ℕ} → t .below n ≡ some m → t .start m ≡ some f → level t n ≡ l
+      → 0x12 ∷ (pair n ++ m ∷ pair f) ≡ writtenRefine t l n
   unfolding writtenRefine
   refine-node {m} {f} bel st here = sym (rw (bel, st, eq-eqb (level t n) l here))
 
@@ -243,6 +262,7 @@ pub arrow-none : (t : Tree) (n x : ℕ) → t .transition n x ≡ none → writt
 unfolding writtenArrow
 arrow-none t n x e = rw e
 
+-- and else its bytes
 pub arrow-node : (t : Tree) (n x : ℕ) {a : Transition} → t .transition n x ≡ some a
     → 0x14 ∷ (pair n ++ x ∷ (pair (a .target) ++ pair (a .cost))) ≡ writtenArrow t n x
 unfolding writtenArrow
@@ -253,13 +273,14 @@ pub begin-root : (t : Tree) {f : ℕ} → t .start (t .root) ≡ some f → 0x10
 unfolding writtenBegin
 begin-root t e = sym (rw e)
 
--- how long each is at most
+-- an add has at most 4 bytes
 pub add-short : (t : Tree) (l n : ℕ) → length (writtenAdd t l n) ≤ 4
 unfolding writtenAdd
 add-short t l n =
     option-short 4 (λ m. cond (eqb (level t n) l && not (isStart t n)) (0x11 ∷ m ∷ pair n) []) (t .owner n)
     (λ m. cond-short 4 (eqb (level t n) l && not (isStart t n)) (0x11 ∷ m ∷ pair n) (omega arith))
 
+-- a refine at most 6
 pub refine-short : (t : Tree) (l n : ℕ) → length (writtenRefine t l n) ≤ 6
 unfolding writtenRefine
 refine-short t l n =
@@ -268,20 +289,25 @@ refine-short t l n =
     option-short 6 (λ f. cond (eqb (level t n) l) (0x12 ∷ (pair n ++ m ∷ pair f)) []) (t .start m)
     (λ f. cond-short 6 (eqb (level t n) l) (0x12 ∷ (pair n ++ m ∷ pair f)) (omega arith)))
 
+-- an arrow at most 8
 pub arrow-short : (t : Tree) (n x : ℕ) → length (writtenArrow t n x) ≤ 8
 unfolding writtenArrow
 arrow-short t n x =
     option-short 8 (λ a. 0x14 ∷ (pair n ++ x ∷ (pair (a .target) ++ pair (a .cost)))) (t .transition n x) (λ a. omega arith)
 
+-- the adds of a level
 pub adds-short : (t : Tree) (l : ℕ) → length (joined nodes (writtenAdd t l)) ≤ nodes * 4
 adds-short t l = joined-short 4 nodes (writtenAdd t l) (add-short t l)
 
+-- the refines of a level
 refines-short : (t : Tree) (l : ℕ) → length (joined nodes (writtenRefine t l)) ≤ nodes * 6
 refines-short t l = joined-short 6 nodes (writtenRefine t l) (refine-short t l)
 
+-- a level
 pub level-short : (t : Tree) (l : ℕ) → length (writtenLevel t l) ≤ 2560
 level-short t l = rw length-append (omega (arith, adds-short t (suc l), refines-short t (suc l)))
 
+-- the arrows of a node
 pub arrows-short : (t : Tree) (n : ℕ) → length (writtenArrows t n) ≤ 128
 arrows-short t n = omega (arith, joined-short 8 commands (writtenArrow t n) (arrow-short t n))
 
@@ -310,22 +336,25 @@ unfolding word
 told o {a} {w} there e = there ∙ ap some (sym (e ∙ ap word there))
 
 module _ {t : Tree} (s : Sound t) {n m w : ℕ} where
-  -- the start node of the machine that a node belongs to, and of the one that it holds
+  -- the start node of the machine that a node belongs to
   pub start-of-owner : t .owner n ≡ some m → w ≡ word (t .start m) → t .start m ≡ some w
   start-of-owner own e = told (t .start m) (s .owner-used n m own .1) e
 
+  -- the start node of the machine that a node holds
   pub start-of-below : t .below n ≡ some m → w ≡ word (t .start m) → t .start m ≡ some w
   start-of-below bel e = told (t .start m) (s .held-used m n (s .below-held n m bel) .1) e
 
 -- ---- the whole stream
 
--- the root and its start node, from their words
+-- the root is in range
 pub root-range : {t : Tree} → Sound t → {m : ℕ} → m ≡ t .root → m < machines
 root-range {t} s e = let (f, st) = s .root-used in rw e (start-range t s (t .root) f st .0)
 
+-- its start node, from the words
 pub root-start : {t : Tree} → Sound t → {m f : ℕ} → m ≡ t .root → f ≡ word (t .start m) → t .start (t .root) ≡ some f
 root-start {t} s e w = told (t .start (t .root)) (s .root-used .1) (w ∙ ap (λ (k : ℕ). word (t .start k)) e)
 
+-- all levels
 pub levels-short : (t : Tree) → length (joined levels (writtenLevel t)) ≤ levels * 2560
 levels-short t = joined-short 2560 levels (writtenLevel t) (level-short t)
 
@@ -336,3 +365,17 @@ unfolding written
 whole-stream t {m} {f} e st =
     ap (λ (k : ℕ). (0x10 ∷ k ∷ pair f) ++ (joined levels (writtenLevel t) ++ joined nodes (writtenArrows t))) e
     ∙ ap (λ (b : List ℕ). b ++ (joined levels (writtenLevel t) ++ joined nodes (writtenArrows t))) (begin-root t st)
+
+-- its length fits 32 bits
+pub stream-fits : (t : Tree) → length (written t) < 2 ^ 32
+unfolding written writtenBegin
+stream-fits t =
+    let parts = joined levels (writtenLevel t) ++ joined nodes (writtenArrows t) in
+    omega (
+      arith,
+      length-append (writtenBegin t) parts,
+      length-append (joined levels (writtenLevel t)) (joined nodes (writtenArrows t)),
+      option-short 4 (λ f. 0x10 ∷ t .root ∷ pair f) (t .start (t .root)) (λ f. omega arith),
+      levels-short t,
+      joined-short 128 nodes (writtenArrows t) (arrows-short t),
+    )

@@ -1,16 +1,22 @@
 // The stream that Write gives for the tree of a well-formed book (document 01, "Writing, choosing, the session").
 ghost use mathlib.Core.Path.{_≡_};
 ghost use mathlib.Core.List.{[], _∷_, _++_};
-ghost use Prim.Native.Nat.{ℕ, suc, _+_, _*_, _/_, _%_, _^_, _≤_, _<_};
+ghost use Prim.Native.Nat.{_+_, _*_, _/_, _%_, _^_, _≤_, _<_};
 ghost use lib.ListN.{length, drop};
 ghost use Rattle.definitions.specs.Basics.{joined};
-ghost use Rattle.definitions.specs.Limits.{machines, nodes, commands, levels, blank};
-ghost use Rattle.definitions.specs.Tree.{Tree, above, level};
+ghost use Rattle.definitions.specs.Limits.{machines, nodes, commands, levels};
+ghost use Rattle.definitions.specs.Tree.{above, level};
 ghost use Rattle.definitions.specs.Book.{word, treeOf, WellFormed};
-ghost use Rattle.definitions.specs.Write.{pair, writtenAdd, writtenRefine, writtenArrow, written};
-ghost use Rattle.writing.specs.Meaning.{Stored, Levels, writtenLevel, writtenArrows};
+ghost use Rattle.definitions.specs.Write.{pair, writtenAdd, writtenRefine, writtenArrow, written, WriteSays};
+ghost use Rattle.writing.specs.Meaning.{Stored, Levels, writtenLevel, writtenArrows, answerOf};
 
-// The level of the lowest machines.
+// What Write answers: the length of the stream, or the number of a refusal.
+pub enum WriteAnswer {
+    Written(u32),
+    Refused(u32),
+}
+
+// How many levels there are.
 const LEVELS: u32 = 8;
 
 // The node that holds node n's machine.
@@ -74,7 +80,7 @@ fn put_pair(out: &mut [u8], at: usize, n: u32) -> usize
     put_byte(out, low, n % 256)
 }
 
-// The same for the commands of a stream.
+// The same for begin: machine, start node.
 fn put_begin(out: &mut [u8], at: usize, m: u32, s: u32) -> usize
     requires { ⌜ (at + 4 < 2 ^ 64) × (m < machines) × (s < nodes) ⌝ }
     ensures { λ r. ⌜ Stored (now (out .entry)) at (0x10 ∷ m ∷ pair s) r (now (out .exit)) ⌝ }
@@ -84,6 +90,7 @@ fn put_begin(out: &mut [u8], at: usize, m: u32, s: u32) -> usize
     put_pair(out, start, s)
 }
 
+// The same for add: machine, node.
 fn put_add(out: &mut [u8], at: usize, m: u32, n: u32) -> usize
     requires { ⌜ (at + 4 < 2 ^ 64) × (m < machines) × (n < nodes) ⌝ }
     ensures { λ r. ⌜ Stored (now (out .entry)) at (0x11 ∷ m ∷ pair n) r (now (out .exit)) ⌝ }
@@ -93,6 +100,7 @@ fn put_add(out: &mut [u8], at: usize, m: u32, n: u32) -> usize
     put_pair(out, node, n)
 }
 
+// The same for refine: node, machine, its start node.
 fn put_refine(out: &mut [u8], at: usize, n: u32, m: u32, s: u32) -> usize
     requires { ⌜ (at + 6 < 2 ^ 64) × (n < nodes) × (m < machines) × (s < nodes) ⌝ }
     ensures { λ r. ⌜ Stored (now (out .entry)) at (0x12 ∷ (pair n ++ m ∷ pair s)) r (now (out .exit)) ⌝ }
@@ -103,6 +111,7 @@ fn put_refine(out: &mut [u8], at: usize, n: u32, m: u32, s: u32) -> usize
     put_pair(out, start, s)
 }
 
+// The same for arrow: node, command, target, cost.
 fn put_arrow(out: &mut [u8], at: usize, n: u32, x: u32, v: u32, c: u32) -> usize
     requires { ⌜ (at + 8 < 2 ^ 64) × (n < nodes) × (x < commands) × (v < 65536) × (c < 65536) ⌝ }
     ensures { λ r. ⌜ Stored (now (out .entry)) at (0x14 ∷ (pair n ++ x ∷ (pair v ++ pair c))) r (now (out .exit)) ⌝ }
@@ -114,7 +123,7 @@ fn put_arrow(out: &mut [u8], at: usize, n: u32, x: u32, v: u32, c: u32) -> usize
     put_pair(out, cost, c)
 }
 
-// What is written of node n at level l: add, unless n is its machine's start node.
+// Add, if n is in use and at level l and not its machine's start node.
 fn node_add(book: &[u32], list: &[u32; 256], l: u32, n: u32, out: &mut [u8], at: usize) -> usize
     requires { ⌜ WellFormed (now book) × Levels (treeOf (now book)) nodes (now list) × (n < nodes) × (at + 4 < 2 ^ 64) ⌝ }
     ensures { λ r. ⌜ Stored (now (out .entry)) at (writtenAdd (treeOf (now (book .entry))) l n) r (now (out .exit)) ⌝ }
@@ -134,7 +143,7 @@ fn node_add(book: &[u32], list: &[u32; 256], l: u32, n: u32, out: &mut [u8], at:
     put_add(out, at, m, n)
 }
 
-// Refine, if n is refined.
+// Refine, if n is refined and at level l.
 fn node_refine(book: &[u32], list: &[u32; 256], l: u32, n: u32, out: &mut [u8], at: usize) -> usize
     requires { ⌜ WellFormed (now book) × Levels (treeOf (now book)) nodes (now list) × (n < nodes) × (at + 6 < 2 ^ 64) ⌝ }
     ensures { λ r. ⌜ Stored (now (out .entry)) at (writtenRefine (treeOf (now (book .entry))) l n) r (now (out .exit)) ⌝ }
@@ -227,10 +236,10 @@ fn all_arrows(book: &[u32], out: &mut [u8], at: usize) -> usize
     ensures { λ r. ⌜ Stored (now (out .entry)) at (joined nodes (writtenArrows (treeOf (now (book .entry))))) r (now (out .exit)) ⌝ }
 {
     let mut p = at;
-    let mut n = 0u32;
-    while n < book::NODES {
-        p = node_arrows(book, n, out, p);
-        n += 1;
+    let mut node = 0u32;
+    while node < book::NODES {
+        p = node_arrows(book, node, out, p);
+        node += 1;
     }
     p
 }
@@ -263,4 +272,22 @@ pub fn write_stream(book: &[u32], out: &mut [u8]) -> usize
         × (now (out .exit) ≡ written (treeOf (now (book .entry))) ++ drop (length (written (treeOf (now (book .entry))))) (now (out .entry))) ⌝ }
 {
     put_stream(book, out)
+}
+
+// Write: the stream at the front of out, the rest of out untouched, and its length. Refuses 1 (a book of a wrong length), 2 (not well formed)
+// and 15 (out shorter than the stream), with nothing written.
+pub fn write(book: &[u32], out: &mut [u8]) -> WriteAnswer
+    ensures { λ r. ⌜ WriteSays (now (book .entry)) (now (out .entry)) (answerOf r) (now (out .exit)) ⌝ }
+{
+    if book.len() != book::BOOK {
+        return WriteAnswer::Refused(1);
+    }
+    if !wellformed::well_formed(book) {
+        return WriteAnswer::Refused(2);
+    }
+    if out.len() < stream_length(book) {
+        return WriteAnswer::Refused(15);
+    }
+    let n = write_stream(book, out);
+    WriteAnswer::Written(n as u32)
 }

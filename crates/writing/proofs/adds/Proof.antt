@@ -20,13 +20,15 @@ abbrev μ-loop : tie.MeasureT-loop
 loop-holds : tie.Need-loop-holds Inv-loop μ-loop
 loop-holds c =
     let e = c .before .before in
-    (omega arith, stored-start (writtenAdd (treeOf (now (e .args .book))) (e .args .l)) (now (e .args .out)) (e .args .at))
+    let t = treeOf (now (e .args .book)) in
+    (omega arith, stored-start (writtenAdd t (e .args .l)) (now (e .args .out)) (e .args .at))
 
 node-add-requires : tie.Need-node-add-requires Inv-loop μ-loop
 node-add-requires c κs =
     let l = c .before .before in
     let e = l .before .before .before in
-    let room = stored-room (writtenAdd (treeOf (now (e .args .book))) (e .args .l)) (l .loop .n) (l .loop .inv .1) 4 (add-short (treeOf (now (e .args .book))) (e .args .l)) in
+    let t = treeOf (now (e .args .book)) in
+    let room = stored-room (writtenAdd t (e .args .l)) (l .loop .n) (l .loop .inv .1) 4 (add-short t (e .args .l)) in
     (e .pre .0, e .pre .1, c .before .loop-test .taken, omega (arith, room, e .pre .2, c .before .loop-test .taken))
 
 add-n : tie.Need-add-n Inv-loop μ-loop
@@ -39,7 +41,8 @@ loop-again : tie.Need-loop-again Inv-loop μ-loop
 loop-again c =
     let l = c .before .before .before .before .before in
     let e = l .before .before .before in
-    (omega arith, stored-more (writtenAdd (treeOf (now (e .args .book))) (e .args .l)) (l .loop .n) (l .loop .inv .1) (c .before .before .node-add .ensures))
+    let t = treeOf (now (e .args .book)) in
+    (omega arith, stored-more (writtenAdd t (e .args .l)) (l .loop .n) (l .loop .inv .1) (c .before .before .node-add .ensures))
 
 same-length : tie.Need-same-length Inv-loop μ-loop
 same-length c = stored-length (c .before .loop .inv .1)
@@ -48,7 +51,8 @@ returns : tie.Need-returns Inv-loop μ-loop
 returns c =
     let l = c .before in
     let e = l .before .before .before in
-    stored-all (writtenAdd (treeOf (now (e .args .book))) (e .args .l)) (l .loop .n) (l .loop .inv .1) nodes (l .loop .inv .0) (c .loop-test .left)
+    let t = treeOf (now (e .args .book)) in
+    stored-all (writtenAdd t (e .args .l)) (l .loop .n) (l .loop .inv .1) nodes (l .loop .inv .0) (c .loop-test .left)
 
 pub adds-spec : {M : Type 1} → statement M
 adds-spec =

@@ -11,25 +11,27 @@ use Rattle.writing.proofs.all_arrows.Statement.{statement}
 use Rattle.writing.proofs.all_arrows.Tie as tie
 
 abbrev Inv-loop : tie.InvT-loop
-Inv-loop book out₀ at p₀ n₀ out p n = (n ≤ nodes) × Stored out₀ at (joined n (writtenArrows (treeOf book))) p out
+Inv-loop book out₀ at p₀ node₀ out p node = (node ≤ nodes) × Stored out₀ at (joined node (writtenArrows (treeOf book))) p out
 
 abbrev μ-loop : tie.MeasureT-loop
-μ-loop book out₀ at p₀ n₀ out p n = nodes - n
+μ-loop book out₀ at p₀ node₀ out p node = nodes - node
 
 loop-holds : tie.Need-loop-holds Inv-loop μ-loop
 loop-holds c =
     let e = c .before .before in
-    (omega arith, stored-start (writtenArrows (treeOf (now (e .args .book)))) (now (e .args .out)) (e .args .at))
+    let t = treeOf (now (e .args .book)) in
+    (omega arith, stored-start (writtenArrows t) (now (e .args .out)) (e .args .at))
 
 node-arrows-requires : tie.Need-node-arrows-requires Inv-loop μ-loop
 node-arrows-requires c κs =
     let l = c .before .before in
     let e = l .before .before .before in
-    let room = stored-room (writtenArrows (treeOf (now (e .args .book)))) (l .loop .n) (l .loop .inv .1) 128 (arrows-short (treeOf (now (e .args .book)))) in
+    let t = treeOf (now (e .args .book)) in
+    let room = stored-room (writtenArrows t) (l .loop .node) (l .loop .inv .1) 128 (arrows-short t) in
     (e .pre .0, c .before .loop-test .taken, omega (arith, room, e .pre .1, c .before .loop-test .taken))
 
-add-n : tie.Need-add-n Inv-loop μ-loop
-add-n c = omega arith
+add-node : tie.Need-add-node Inv-loop μ-loop
+add-node c = omega arith
 
 loop-less : tie.Need-loop-less Inv-loop μ-loop
 loop-less c = omega arith
@@ -38,7 +40,8 @@ loop-again : tie.Need-loop-again Inv-loop μ-loop
 loop-again c =
     let l = c .before .before .before .before .before in
     let e = l .before .before .before in
-    (omega arith, stored-more (writtenArrows (treeOf (now (e .args .book)))) (l .loop .n) (l .loop .inv .1) (c .before .before .node-arrows .ensures))
+    let t = treeOf (now (e .args .book)) in
+    (omega arith, stored-more (writtenArrows t) (l .loop .node) (l .loop .inv .1) (c .before .before .node-arrows .ensures))
 
 same-length : tie.Need-same-length Inv-loop μ-loop
 same-length c = stored-length (c .before .loop .inv .1)
@@ -47,7 +50,8 @@ returns : tie.Need-returns Inv-loop μ-loop
 returns c =
     let l = c .before in
     let e = l .before .before .before in
-    stored-all (writtenArrows (treeOf (now (e .args .book)))) (l .loop .n) (l .loop .inv .1) nodes (l .loop .inv .0) (c .loop-test .left)
+    let t = treeOf (now (e .args .book)) in
+    stored-all (writtenArrows t) (l .loop .node) (l .loop .inv .1) nodes (l .loop .inv .0) (c .loop-test .left)
 
 pub all-arrows-spec : {M : Type 1} → statement M
 all-arrows-spec =
@@ -57,7 +61,7 @@ all-arrows-spec =
     μ-loop
     loop-holds
     node-arrows-requires
-    add-n
+    add-node
     loop-less
     loop-again
     same-length

@@ -7,7 +7,8 @@ use Rattle.definitions.specs.Basics.{joined}
 use Rattle.definitions.specs.Limits.{levels}
 use Rattle.definitions.specs.Book.{treeOf}
 use Rattle.writing.specs.Meaning.{Stored, writtenLevel}
-use Rattle.writing.proofs.Laws.{stored-is, stored-then, stored-start, stored-more, stored-length, stored-room, stored-all, adds-short, level-short, level-pieces}
+use Rattle.writing.proofs.Laws.{stored-is, stored-then, stored-start, stored-more, stored-length, stored-room, stored-all}
+use Rattle.writing.proofs.Laws.{adds-short, level-short, level-pieces}
 use Rattle.writing.proofs.all_levels.Statement.{statement}
 use Rattle.writing.proofs.all_levels.Tie as tie
 
@@ -38,23 +39,28 @@ adds-requires c κs =
 
 refines-requires : tie.Need-refines-requires Inv-loop μ-loop
 refines-requires c κs =
-    let l = c .before .before .before .before .before .before .before .before in
+    let a = c .before .before .before .before in
+    let l = a .before .before .before .before in
     let e = l .before .before .before .before in
     let t = treeOf (now (e .args .book)) in
-    let room = stored-room (writtenLevel t) (l .loop .l) (l .loop .inv .1) 2560 (level-short t) in
-    let first = c .before .before .before .before .adds .ensures .place in
-    (e .pre .0, l .before .node-levels .ensures, omega (arith, room, e .pre .1, c .before .before .before .before .before .before .before .loop-test .taken, first, adds-short t (l .loop .l + 1)))
+    let room = stored-room (writtenLevel t) (l .loop .l) (l .loop .inv .1) 2560 (level-short t) in (
+      e .pre .0,
+      l .before .node-levels .ensures,
+      omega (arith, room, e .pre .1, a .before .before .before .loop-test .taken, a .adds .ensures .place, adds-short t (l .loop .l + 1)),
+    )
 
 loop-less : tie.Need-loop-less Inv-loop μ-loop
 loop-less c = omega (arith, c .before .before .before .before .before .before .before .before .before .before .loop-test .taken)
 
 loop-again : tie.Need-loop-again Inv-loop μ-loop
 loop-again c =
-    let l = c .before .before .before .before .before .before .before .before .before .before .before in
+    let r = c .before .before in
+    let a = r .before .before .before .before .before in
+    let l = a .before .before .before .before in
     let e = l .before .before .before .before in
     let t = treeOf (now (e .args .book)) in
-    let one = stored-is (stored-then (c .before .before .before .before .before .before .before .adds .ensures) (c .before .before .refines .ensures)) (level-pieces t (l .loop .l)) in
-    (omega (arith, c .before .before .before .before .before .before .before .before .before .before .loop-test .taken), stored-more (writtenLevel t) (l .loop .l) (l .loop .inv .1) one)
+    let one = stored-is (stored-then (a .adds .ensures) (r .refines .ensures)) (level-pieces t (l .loop .l)) in
+    (omega (arith, a .before .before .before .loop-test .taken), stored-more (writtenLevel t) (l .loop .l) (l .loop .inv .1) one)
 
 same-length : tie.Need-same-length Inv-loop μ-loop
 same-length c = stored-length (c .before .loop .inv .1)

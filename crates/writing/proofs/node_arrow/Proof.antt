@@ -14,8 +14,8 @@ returns : tie.Need-returns
 returns c =
     let e = c .before .before .before .before in
     let t = treeOf (now (e .args .book)) in
-    stored-none (now (e .args .out)) (e .args .at)
-    (arrow-none t (e .args .n) (e .args .x) (no-transition t (e .pre .0 .sound) (e .args .n) (e .args .x) (c .before .transition .ensures) (c .if1 .taken)))
+    let free = no-transition t (e .pre .0 .sound) (e .args .n) (e .args .x) (c .before .transition .ensures) (c .if1 .taken) in
+    stored-none (now (e .args .out)) (e .args .at) (arrow-none t (e .args .n) (e .args .x) free)
 
 put-arrow-requires : tie.Need-put-arrow-requires
 put-arrow-requires c κs = search needs

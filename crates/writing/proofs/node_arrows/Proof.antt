@@ -20,13 +20,15 @@ abbrev μ-loop : tie.MeasureT-loop
 loop-holds : tie.Need-loop-holds Inv-loop μ-loop
 loop-holds c =
     let e = c .before .before in
-    (omega arith, stored-start (writtenArrow (treeOf (now (e .args .book))) (e .args .n)) (now (e .args .out)) (e .args .at))
+    let t = treeOf (now (e .args .book)) in
+    (omega arith, stored-start (writtenArrow t (e .args .n)) (now (e .args .out)) (e .args .at))
 
 node-arrow-requires : tie.Need-node-arrow-requires Inv-loop μ-loop
 node-arrow-requires c κs =
     let l = c .before .before in
     let e = l .before .before .before in
-    let room = stored-room (writtenArrow (treeOf (now (e .args .book))) (e .args .n)) (l .loop .x) (l .loop .inv .1) 8 (arrow-short (treeOf (now (e .args .book))) (e .args .n)) in
+    let t = treeOf (now (e .args .book)) in
+    let room = stored-room (writtenArrow t (e .args .n)) (l .loop .x) (l .loop .inv .1) 8 (arrow-short t (e .args .n)) in
     (e .pre .0, e .pre .1, c .before .loop-test .taken, omega (arith, room, e .pre .2, c .before .loop-test .taken))
 
 add-x : tie.Need-add-x Inv-loop μ-loop
@@ -39,7 +41,8 @@ loop-again : tie.Need-loop-again Inv-loop μ-loop
 loop-again c =
     let l = c .before .before .before .before .before in
     let e = l .before .before .before in
-    (omega arith, stored-more (writtenArrow (treeOf (now (e .args .book))) (e .args .n)) (l .loop .x) (l .loop .inv .1) (c .before .before .node-arrow .ensures))
+    let t = treeOf (now (e .args .book)) in
+    (omega arith, stored-more (writtenArrow t (e .args .n)) (l .loop .x) (l .loop .inv .1) (c .before .before .node-arrow .ensures))
 
 same-length : tie.Need-same-length Inv-loop μ-loop
 same-length c = stored-length (c .before .loop .inv .1)
@@ -48,7 +51,8 @@ returns : tie.Need-returns Inv-loop μ-loop
 returns c =
     let l = c .before in
     let e = l .before .before .before in
-    stored-all (writtenArrow (treeOf (now (e .args .book))) (e .args .n)) (l .loop .x) (l .loop .inv .1) commands (l .loop .inv .0) (c .loop-test .left)
+    let t = treeOf (now (e .args .book)) in
+    stored-all (writtenArrow t (e .args .n)) (l .loop .x) (l .loop .inv .1) commands (l .loop .inv .0) (c .loop-test .left)
 
 pub node-arrows-spec : {M : Type 1} → statement M
 node-arrows-spec =

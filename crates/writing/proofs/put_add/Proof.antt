@@ -17,7 +17,11 @@ same-length : tie.Need-same-length
 same-length c = search needs
 
 returns : tie.Need-returns
-returns c = stored-then (c .before .before .before .before .before .before .before .before .before .before .put-byte .ensures) (stored-then (c .before .before .before .before .before .before .put-byte2 .ensures) (c .before .before .put-pair .ensures))
+returns c =
+    let d = c .before .before in
+    let b = d .before .before .before .before in
+    let a = b .before .before .before .before in
+    stored-then (a .put-byte .ensures) (stored-then (b .put-byte2 .ensures) (d .put-pair .ensures))
 
 pub put-add-spec : {M : Type 1} → statement M
 put-add-spec =

@@ -23,7 +23,14 @@ same-length : tie.Need-same-length
 same-length c = search needs
 
 returns : tie.Need-returns
-returns c = stored-then (c .before .before .before .before .before .before .before .before .before .before .before .before .before .before .before .before .before .before .put-byte .ensures) (stored-then (c .before .before .before .before .before .before .before .before .before .before .before .before .before .before .put-pair .ensures) (stored-then (c .before .before .before .before .before .before .before .before .before .before .put-byte2 .ensures) (stored-then (c .before .before .before .before .before .before .put-pair2 .ensures) (c .before .before .put-pair3 .ensures))))
+returns c =
+    let f = c .before .before in
+    let e = f .before .before .before .before in
+    let d = e .before .before .before .before in
+    let b = d .before .before .before .before in
+    let a = b .before .before .before .before in
+    stored-then (a .put-byte .ensures)
+    (stored-then (b .put-pair .ensures) (stored-then (d .put-byte2 .ensures) (stored-then (e .put-pair2 .ensures) (f .put-pair3 .ensures))))
 
 pub put-arrow-spec : {M : Type 1} → statement M
 put-arrow-spec =

@@ -20,7 +20,12 @@ same-length : tie.Need-same-length
 same-length c = search needs
 
 returns : tie.Need-returns
-returns c = stored-then (c .before .before .before .before .before .before .before .before .before .before .before .before .before .before .put-byte .ensures) (stored-then (c .before .before .before .before .before .before .before .before .before .before .put-pair .ensures) (stored-then (c .before .before .before .before .before .before .put-byte2 .ensures) (c .before .before .put-pair2 .ensures)))
+returns c =
+    let e = c .before .before in
+    let d = e .before .before .before .before in
+    let b = d .before .before .before .before in
+    let a = b .before .before .before .before in
+    stored-then (a .put-byte .ensures) (stored-then (b .put-pair .ensures) (stored-then (d .put-byte2 .ensures) (e .put-pair2 .ensures)))
 
 pub put-refine-spec : {M : Type 1} → statement M
 put-refine-spec =

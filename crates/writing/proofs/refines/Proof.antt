@@ -20,13 +20,15 @@ abbrev μ-loop : tie.MeasureT-loop
 loop-holds : tie.Need-loop-holds Inv-loop μ-loop
 loop-holds c =
     let e = c .before .before in
-    (omega arith, stored-start (writtenRefine (treeOf (now (e .args .book))) (e .args .l)) (now (e .args .out)) (e .args .at))
+    let t = treeOf (now (e .args .book)) in
+    (omega arith, stored-start (writtenRefine t (e .args .l)) (now (e .args .out)) (e .args .at))
 
 node-refine-requires : tie.Need-node-refine-requires Inv-loop μ-loop
 node-refine-requires c κs =
     let l = c .before .before in
     let e = l .before .before .before in
-    let room = stored-room (writtenRefine (treeOf (now (e .args .book))) (e .args .l)) (l .loop .n) (l .loop .inv .1) 6 (refine-short (treeOf (now (e .args .book))) (e .args .l)) in
+    let t = treeOf (now (e .args .book)) in
+    let room = stored-room (writtenRefine t (e .args .l)) (l .loop .n) (l .loop .inv .1) 6 (refine-short t (e .args .l)) in
     (e .pre .0, e .pre .1, c .before .loop-test .taken, omega (arith, room, e .pre .2, c .before .loop-test .taken))
 
 add-n : tie.Need-add-n Inv-loop μ-loop
@@ -39,7 +41,8 @@ loop-again : tie.Need-loop-again Inv-loop μ-loop
 loop-again c =
     let l = c .before .before .before .before .before in
     let e = l .before .before .before in
-    (omega arith, stored-more (writtenRefine (treeOf (now (e .args .book))) (e .args .l)) (l .loop .n) (l .loop .inv .1) (c .before .before .node-refine .ensures))
+    let t = treeOf (now (e .args .book)) in
+    (omega arith, stored-more (writtenRefine t (e .args .l)) (l .loop .n) (l .loop .inv .1) (c .before .before .node-refine .ensures))
 
 same-length : tie.Need-same-length Inv-loop μ-loop
 same-length c = stored-length (c .before .loop .inv .1)
@@ -48,7 +51,8 @@ returns : tie.Need-returns Inv-loop μ-loop
 returns c =
     let l = c .before in
     let e = l .before .before .before in
-    stored-all (writtenRefine (treeOf (now (e .args .book))) (e .args .l)) (l .loop .n) (l .loop .inv .1) nodes (l .loop .inv .0) (c .loop-test .left)
+    let t = treeOf (now (e .args .book)) in
+    stored-all (writtenRefine t (e .args .l)) (l .loop .n) (l .loop .inv .1) nodes (l .loop .inv .0) (c .loop-test .left)
 
 pub refines-spec : {M : Type 1} → statement M
 refines-spec =
