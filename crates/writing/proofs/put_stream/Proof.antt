@@ -1,0 +1,60 @@
+-- `writing::put_stream` meets its contract: begin, the levels and the transitions, one after the other. Assumes nothing.
+use borrow.Author.Needs.{needs}
+use native.Mathlib.Omega.{arith}
+use denote.Ref.{now}
+use Rattle.definitions.specs.Book.{treeOf}
+use Rattle.definitions.proofs.Words.{start-range}
+use Rattle.writing.proofs.Laws.{stored-is, stored-then, root-range, root-start, levels-short, whole-stream}
+use Rattle.writing.proofs.put_stream.Statement.{statement}
+use Rattle.writing.proofs.put_stream.Tie as tie
+
+root-requires : tie.Need-root-requires
+root-requires c κs = search needs
+
+start-requires : tie.Need-start-requires
+start-requires c κs = (c .before .before .before .pre .length, root-range (c .before .before .before .pre .sound) (c .root .ensures))
+
+put-begin-requires : tie.Need-put-begin-requires
+put-begin-requires c κs =
+    let r = c .before .before in
+    let e = r .before .before .before in
+    let t = treeOf (now (e .args .book)) in
+    let st = root-start (e .pre .sound) (r .root .ensures) (c .before .start .ensures) in
+    (omega arith, root-range (e .pre .sound) (r .root .ensures), start-range t (e .pre .sound) (t .root) (c .before .start .result) st .1)
+
+all-levels-requires : tie.Need-all-levels-requires
+all-levels-requires c κs = search needs
+
+all-arrows-requires : tie.Need-all-arrows-requires
+all-arrows-requires c κs =
+    let l = c .before .before .before in
+    let b = l .before .before .before .before in
+    let e = c .before .before .before .before .before .before .before .before .before .before .before .before .before in
+    (e .pre, omega (arith, b .put-begin .ensures .place, l .all-levels .ensures .place, levels-short (treeOf (now (e .args .book)))))
+
+same-length : tie.Need-same-length
+same-length c = search needs
+
+returns : tie.Need-returns
+returns c =
+    let a = c .before .before in
+    let l = a .before .before .before .before in
+    let b = l .before .before .before .before in
+    let f = b .before .before in
+    let r = f .before in
+    let e = r .before .before .before in
+    let st = root-start (e .pre .sound) (r .root .ensures) (f .start .ensures) in
+    stored-is (stored-then (b .put-begin .ensures) (stored-then (l .all-levels .ensures) (a .all-arrows .ensures)))
+    (whole-stream (treeOf (now (e .args .book))) (r .root .ensures) st)
+
+pub put-stream-spec : {M : Type 1} → statement M
+put-stream-spec =
+    tie.close
+    (tie.spec
+    root-requires
+    start-requires
+    put-begin-requires
+    all-levels-requires
+    all-arrows-requires
+    same-length
+    returns)

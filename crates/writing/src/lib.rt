@@ -1,0 +1,293 @@
+// The stream that Write gives for the tree of a well-formed book (document 01, "Writing, choosing, the session").
+ghost use mathlib.Core.Path.{_≡_};
+ghost use mathlib.Core.List.{[], _∷_, _++_};
+ghost use Prim.Native.Nat.{_+_, _*_, _/_, _%_, _^_, _≤_, _<_};
+ghost use lib.ListN.{length, drop};
+ghost use Rattle.definitions.specs.Basics.{joined};
+ghost use Rattle.definitions.specs.Limits.{machines, nodes, commands, levels};
+ghost use Rattle.definitions.specs.Tree.{above, level};
+ghost use Rattle.definitions.specs.Book.{word, treeOf, WellFormed};
+ghost use Rattle.definitions.specs.Write.{pair, writtenAdd, writtenRefine, writtenArrow, written, WriteSays};
+ghost use Rattle.writing.specs.Meaning.{Stored, Levels, writtenLevel, writtenArrows, answerOf};
+
+// What Write answers: the length of the stream, or the number of a refusal.
+pub enum WriteAnswer {
+    Written(u32),
+    Refused(u32),
+}
+
+// How many levels there are.
+const LEVELS: u32 = 8;
+
+// The node that holds node n's machine.
+fn above(book: &[u32], n: u32) -> u32
+    requires { ⌜ WellFormed (now book) × (n < nodes) ⌝ }
+    ensures { λ r. ⌜ r ≡ word (above (treeOf (now (book .entry))) n) ⌝ }
+{
+    let m = book::owner(book, n);
+    if m == book::ABSENT {
+        return book::ABSENT;
+    }
+    book::holder(book, m)
+}
+
+// The level of node n's machine: the number of nodes from n up to the root's.
+fn level(book: &[u32], n: u32) -> u32
+    requires { ⌜ WellFormed (now book) × (n < nodes) ⌝ }
+    ensures { λ r. ⌜ r ≡ level (treeOf (now (book .entry))) n ⌝ }
+{
+    let mut h = above(book, n);
+    let mut count = 1u32;
+    while h != book::ABSENT {
+        h = above(book, h);
+        count += 1;
+    }
+    count
+}
+
+// The level of every node.
+fn node_levels(book: &[u32]) -> [u32; 256]
+    requires { ⌜ WellFormed (now book) ⌝ }
+    ensures { λ r. ⌜ Levels (treeOf (now (book .entry))) nodes r ⌝ }
+{
+    let mut list = [0u32; 256];
+    let mut n = 0u32;
+    while n < book::NODES {
+        list[n as usize] = level(book, n);
+        n += 1;
+    }
+    list
+}
+
+// Stores a byte at a place, if the list goes so far; the next place.
+fn put_byte(out: &mut [u8], at: usize, b: u32) -> usize
+    requires { ⌜ (at + 1 < 2 ^ 64) × (b < 256) ⌝ }
+    ensures { λ r. ⌜ Stored (now (out .entry)) at (b ∷ []) r (now (out .exit)) ⌝ }
+{
+    if out.len() <= at {
+        return at + 1;
+    }
+    out[at] = b as u8;
+    at + 1
+}
+
+// The same for a number's two bytes, high byte first.
+fn put_pair(out: &mut [u8], at: usize, n: u32) -> usize
+    requires { ⌜ (at + 2 < 2 ^ 64) × (n < 65536) ⌝ }
+    ensures { λ r. ⌜ Stored (now (out .entry)) at (pair n) r (now (out .exit)) ⌝ }
+{
+    let low = put_byte(out, at, n / 256);
+    put_byte(out, low, n % 256)
+}
+
+// The same for begin: machine, start node.
+fn put_begin(out: &mut [u8], at: usize, m: u32, s: u32) -> usize
+    requires { ⌜ (at + 4 < 2 ^ 64) × (m < machines) × (s < nodes) ⌝ }
+    ensures { λ r. ⌜ Stored (now (out .entry)) at (0x10 ∷ m ∷ pair s) r (now (out .exit)) ⌝ }
+{
+    let machine = put_byte(out, at, 0x10);
+    let start = put_byte(out, machine, m);
+    put_pair(out, start, s)
+}
+
+// The same for add: machine, node.
+fn put_add(out: &mut [u8], at: usize, m: u32, n: u32) -> usize
+    requires { ⌜ (at + 4 < 2 ^ 64) × (m < machines) × (n < nodes) ⌝ }
+    ensures { λ r. ⌜ Stored (now (out .entry)) at (0x11 ∷ m ∷ pair n) r (now (out .exit)) ⌝ }
+{
+    let machine = put_byte(out, at, 0x11);
+    let node = put_byte(out, machine, m);
+    put_pair(out, node, n)
+}
+
+// The same for refine: node, machine, its start node.
+fn put_refine(out: &mut [u8], at: usize, n: u32, m: u32, s: u32) -> usize
+    requires { ⌜ (at + 6 < 2 ^ 64) × (n < nodes) × (m < machines) × (s < nodes) ⌝ }
+    ensures { λ r. ⌜ Stored (now (out .entry)) at (0x12 ∷ (pair n ++ m ∷ pair s)) r (now (out .exit)) ⌝ }
+{
+    let node = put_byte(out, at, 0x12);
+    let machine = put_pair(out, node, n);
+    let start = put_byte(out, machine, m);
+    put_pair(out, start, s)
+}
+
+// The same for arrow: node, command, target, cost.
+fn put_arrow(out: &mut [u8], at: usize, n: u32, x: u32, v: u32, c: u32) -> usize
+    requires { ⌜ (at + 8 < 2 ^ 64) × (n < nodes) × (x < commands) × (v < 65536) × (c < 65536) ⌝ }
+    ensures { λ r. ⌜ Stored (now (out .entry)) at (0x14 ∷ (pair n ++ x ∷ (pair v ++ pair c))) r (now (out .exit)) ⌝ }
+{
+    let node = put_byte(out, at, 0x14);
+    let command = put_pair(out, node, n);
+    let target = put_byte(out, command, x);
+    let cost = put_pair(out, target, v);
+    put_pair(out, cost, c)
+}
+
+// Add, if n is in use and at level l and not its machine's start node.
+fn node_add(book: &[u32], list: &[u32; 256], l: u32, n: u32, out: &mut [u8], at: usize) -> usize
+    requires { ⌜ WellFormed (now book) × Levels (treeOf (now book)) nodes (now list) × (n < nodes) × (at + 4 < 2 ^ 64) ⌝ }
+    ensures { λ r. ⌜ Stored (now (out .entry)) at (writtenAdd (treeOf (now (book .entry))) l n) r (now (out .exit)) ⌝ }
+{
+    let m = book::owner(book, n);
+    if m == book::ABSENT {
+        return at;
+    }
+    let here = list[n as usize];
+    if here != l {
+        return at;
+    }
+    let s = book::start(book, m);
+    if s == n {
+        return at;
+    }
+    put_add(out, at, m, n)
+}
+
+// Refine, if n is refined and at level l.
+fn node_refine(book: &[u32], list: &[u32; 256], l: u32, n: u32, out: &mut [u8], at: usize) -> usize
+    requires { ⌜ WellFormed (now book) × Levels (treeOf (now book)) nodes (now list) × (n < nodes) × (at + 6 < 2 ^ 64) ⌝ }
+    ensures { λ r. ⌜ Stored (now (out .entry)) at (writtenRefine (treeOf (now (book .entry))) l n) r (now (out .exit)) ⌝ }
+{
+    let m = book::below(book, n);
+    if m == book::ABSENT {
+        return at;
+    }
+    let here = list[n as usize];
+    if here != l {
+        return at;
+    }
+    let s = book::start(book, m);
+    put_refine(out, at, n, m, s)
+}
+
+// Arrow, if n has a transition for command x.
+fn node_arrow(book: &[u32], n: u32, x: u32, out: &mut [u8], at: usize) -> usize
+    requires { ⌜ WellFormed (now book) × (n < nodes) × (x < commands) × (at + 8 < 2 ^ 64) ⌝ }
+    ensures { λ r. ⌜ Stored (now (out .entry)) at (writtenArrow (treeOf (now (book .entry))) n x) r (now (out .exit)) ⌝ }
+{
+    let w = book::transition(book, n, x);
+    if w == book::BLANK {
+        return at;
+    }
+    put_arrow(out, at, n, x, w / 65536, w % 65536)
+}
+
+// The adds of level l, by rising node.
+fn adds(book: &[u32], list: &[u32; 256], l: u32, out: &mut [u8], at: usize) -> usize
+    requires { ⌜ WellFormed (now book) × Levels (treeOf (now book)) nodes (now list) × (at + nodes * 4 < 2 ^ 64) ⌝ }
+    ensures { λ r. ⌜ Stored (now (out .entry)) at (joined nodes (writtenAdd (treeOf (now (book .entry))) l)) r (now (out .exit)) ⌝ }
+{
+    let mut p = at;
+    let mut n = 0u32;
+    while n < book::NODES {
+        p = node_add(book, list, l, n, out, p);
+        n += 1;
+    }
+    p
+}
+
+// The refines of level l, by rising node.
+fn refines(book: &[u32], list: &[u32; 256], l: u32, out: &mut [u8], at: usize) -> usize
+    requires { ⌜ WellFormed (now book) × Levels (treeOf (now book)) nodes (now list) × (at + nodes * 6 < 2 ^ 64) ⌝ }
+    ensures { λ r. ⌜ Stored (now (out .entry)) at (joined nodes (writtenRefine (treeOf (now (book .entry))) l)) r (now (out .exit)) ⌝ }
+{
+    let mut p = at;
+    let mut n = 0u32;
+    while n < book::NODES {
+        p = node_refine(book, list, l, n, out, p);
+        n += 1;
+    }
+    p
+}
+
+// What is written of every level: first add, then refine.
+fn all_levels(book: &[u32], out: &mut [u8], at: usize) -> usize
+    requires { ⌜ WellFormed (now book) × (at + levels * 2560 < 2 ^ 64) ⌝ }
+    ensures { λ r. ⌜ Stored (now (out .entry)) at (joined levels (writtenLevel (treeOf (now (book .entry))))) r (now (out .exit)) ⌝ }
+{
+    let list = node_levels(book);
+    let mut p = at;
+    let mut l = 0u32;
+    while l < LEVELS {
+        l += 1;
+        let q = adds(book, &list, l, out, p);
+        p = refines(book, &list, l, out, q);
+    }
+    p
+}
+
+// The transitions of node n, by command.
+fn node_arrows(book: &[u32], n: u32, out: &mut [u8], at: usize) -> usize
+    requires { ⌜ WellFormed (now book) × (n < nodes) × (at + commands * 8 < 2 ^ 64) ⌝ }
+    ensures { λ r. ⌜ Stored (now (out .entry)) at (writtenArrows (treeOf (now (book .entry))) n) r (now (out .exit)) ⌝ }
+{
+    let mut p = at;
+    let mut x = 0u32;
+    while x < book::COMMANDS {
+        p = node_arrow(book, n, x, out, p);
+        x += 1;
+    }
+    p
+}
+
+// All transitions, by node, then command.
+fn all_arrows(book: &[u32], out: &mut [u8], at: usize) -> usize
+    requires { ⌜ WellFormed (now book) × (at + nodes * 128 < 2 ^ 64) ⌝ }
+    ensures { λ r. ⌜ Stored (now (out .entry)) at (joined nodes (writtenArrows (treeOf (now (book .entry))))) r (now (out .exit)) ⌝ }
+{
+    let mut p = at;
+    let mut node = 0u32;
+    while node < book::NODES {
+        p = node_arrows(book, node, out, p);
+        node += 1;
+    }
+    p
+}
+
+// Stores the stream at the front of a list, as far as the list goes; the stream's length.
+fn put_stream(book: &[u32], out: &mut [u8]) -> usize
+    requires { ⌜ WellFormed (now book) ⌝ }
+    ensures { λ r. ⌜ Stored (now (out .entry)) 0 (written (treeOf (now (book .entry)))) r (now (out .exit)) ⌝ }
+{
+    let m = book::root(book);
+    let s = book::start(book, m);
+    let p = put_begin(out, 0, m, s);
+    let q = all_levels(book, out, p);
+    all_arrows(book, out, q)
+}
+
+// The length of the stream.
+pub fn stream_length(book: &[u32]) -> usize
+    requires { ⌜ WellFormed (now book) ⌝ }
+    ensures { λ r. ⌜ r ≡ length (written (treeOf (now (book .entry)))) ⌝ }
+{
+    let mut nowhere = [0u8; 0];
+    put_stream(book, &mut nowhere)
+}
+
+// Stores the stream at the front of a list that has room for it; the stream's length. The rest of the list is untouched.
+pub fn write_stream(book: &[u32], out: &mut [u8]) -> usize
+    requires { ⌜ WellFormed (now book) × (length (written (treeOf (now book))) ≤ length (now out)) ⌝ }
+    ensures { λ r. ⌜ (r ≡ length (written (treeOf (now (book .entry)))))
+        × (now (out .exit) ≡ written (treeOf (now (book .entry))) ++ drop (length (written (treeOf (now (book .entry))))) (now (out .entry))) ⌝ }
+{
+    put_stream(book, out)
+}
+
+// Write: the stream at the front of out, the rest of out untouched, and its length. Refuses 1 (a book of a wrong length), 2 (not well formed)
+// and 15 (out shorter than the stream), with nothing written.
+pub fn write(book: &[u32], out: &mut [u8]) -> WriteAnswer
+    ensures { λ r. ⌜ WriteSays (now (book .entry)) (now (out .entry)) (answerOf r) (now (out .exit)) ⌝ }
+{
+    if book.len() != book::BOOK {
+        return WriteAnswer::Refused(1);
+    }
+    if !wellformed::well_formed(book) {
+        return WriteAnswer::Refused(2);
+    }
+    if out.len() < stream_length(book) {
+        return WriteAnswer::Refused(15);
+    }
+    let n = write_stream(book, out);
+    WriteAnswer::Written(n as u32)
+}
