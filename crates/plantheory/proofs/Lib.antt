@@ -1,2 +1,5 @@
 pub mod Landing
 pub mod Cheapest
+pub mod Under
+pub mod Visits
+pub mod Chain
