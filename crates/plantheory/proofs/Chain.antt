@@ -7,9 +7,9 @@ use mathlib.Core.List.{List, [], _∷_, _++_}
 use Prim.Native.Nat.{ℕ, zero, suc, _+_, _≤_, _<_}
 use native.Mathlib.Omega.{arith}
 use native.Mathlib.Nat.{le-of-suc-le-suc}
-use Rattle.definitions.specs.Basics.{_>>=_, iterate, All, Distinct}
+use Rattle.definitions.specs.Basics.{iterate, All, Distinct}
 use Rattle.definitions.specs.Tree.{Tree, Sound}
-use Rattle.definitions.specs.Step.{enter, Climb, found, past, climb, Arrival, follow, stepIn, runIn}
+use Rattle.definitions.specs.Step.{found, past, climb, Arrival, follow, stepIn, runIn}
 use Rattle.definitions.proofs.Options.{bind-some, none-some, some-same}
 use Rattle.definitions.proofs.Path.{Enters, enters, enters-enter, climb-found}
 use Rattle.definitions.proofs.Runs.{run-cons, run-nil, run-join}
@@ -96,7 +96,6 @@ crosses {t} s {top} {u} {x} {d = d} out up ahead =
     }
 
 -- ---- the whole chain
-
 
 -- node d is below a node of the kind from which fewer than j names lead back to a
 abbrev pub Earlier : Tree → (ℕ → Option ℕ) → ℕ → (ℕ → Type 0) → ℕ → ℕ → Type 0

@@ -3,13 +3,13 @@
 use mathlib.Core.Path.{_≡_, refl, sym, _∙_, ap, fun-ext}
 use mathlib.Core.Option.{Option, none, some}
 use mathlib.Core.List.{List, [], _∷_, _++_, append-assoc}
-use Prim.Native.Nat.{ℕ, _+_}
+use Prim.Native.Nat.{ℕ}
 use Rattle.definitions.specs.Basics.{option, All, Distinct}
 use Rattle.definitions.specs.Tree.{Tree}
 use Rattle.definitions.specs.Step.{Arrival, stepIn, runIn}
 use Rattle.definitions.proofs.Options.{some-same}
-use Rattle.definitions.proofs.Runs.{run-first, run-nil, run-join}
-use Rattle.definitions.proofs.Simple.{trail, trail-nil, trail-cons, all-both}
+use Rattle.definitions.proofs.Runs.{run-first, run-nil}
+use Rattle.definitions.proofs.Simple.{trail, all-both}
 
 -- ---- lists in a row
 
