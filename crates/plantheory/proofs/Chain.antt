@@ -7,7 +7,7 @@ use mathlib.Core.List.{List, [], _∷_, _++_}
 use Prim.Native.Nat.{ℕ, zero, suc, _+_, _≤_, _<_}
 use native.Mathlib.Omega.{arith}
 use native.Mathlib.Nat.{le-of-suc-le-suc}
-use Rattle.definitions.specs.Basics.{iterate, All, Distinct}
+use Rattle.definitions.specs.Basics.{option, iterate, All, Distinct}
 use Rattle.definitions.specs.Tree.{Tree, Sound}
 use Rattle.definitions.specs.Step.{found, past, climb, Arrival, follow, stepIn, runIn}
 use Rattle.definitions.proofs.Options.{bind-some, none-some, some-same}
@@ -51,6 +51,32 @@ chain-length before {a} first (suc i) (suc j) n p q =
     let (v, ev, rest′) = bind-some (before n) (iterate before j) q in
     let same : v ≡ u = some-same ev eu in
     ap suc (chain-length before first i j u rest (subst (λ (k : ℕ). iterate before j k ≡ some a) same rest′))
+
+-- more fuel than names changes nothing
+chain-enough : (before by : ℕ → Option ℕ) (part : ℕ → ℕ → List ℕ) {a : ℕ} → before a ≡ none → (j k i n : ℕ) → j ≤ k → j ≤ i
+    → iterate before j n ≡ some a → chainPart k before by part n ≡ chainPart i before by part n
+unfolding chainPart iterate
+chain-enough before by part {a} first zero k i n fits also way =
+    let same : n ≡ a = some-same refl way in
+    let begin : before n ≡ none = rw same first in
+    chain-first before by part k n begin ∙ sym (chain-first before by part i n begin)
+chain-enough before by part first (suc j) zero i n fits also way = absurd (omega arith)
+chain-enough before by part first (suc j) (suc k) zero n fits also way = absurd (omega arith)
+chain-enough before by part first (suc j) (suc k) (suc i) n fits also way =
+    let (u, eu, rest) = bind-some (before n) (iterate before j) way in
+    rw eu
+    (ap (λ (l : List ℕ). option [] (λ x. l ++ (part u x ++ (x ∷ []))) (by n))
+    (chain-enough before by part first j k i u (le-of-suc-le-suc fits) (le-of-suc-le-suc also) rest))
+
+-- with fuel for all names the commands go on from the node before, with the same fuel
+pub chain-next : (before by : ℕ → Option ℕ) (part : ℕ → ℕ → List ℕ) {a : ℕ} → before a ≡ none → (j k : ℕ) {n u x : ℕ} → j < k
+    → iterate before j u ≡ some a → before n ≡ some u → by n ≡ some x
+    → chainPart k before by part n ≡ chainPart k before by part u ++ (part u x ++ (x ∷ []))
+chain-next before by part first j zero fits way e f = absurd (omega arith)
+chain-next before by part first j (suc k) {u = u} {x = x} fits way e f =
+    chain-on before by part k e f
+    ∙ ap (λ (l : List ℕ). l ++ (part u x ++ (x ∷ [])))
+    (chain-enough before by part first j k (suc k) u (le-of-suc-le-suc fits) (omega arith) way)
 
 -- ---- leaving a node, and crossing to another
 
@@ -151,9 +177,14 @@ module _ (t : Tree) (top : ℕ) (before : ℕ → Option ℕ) (a e : ℕ) (first
             rw states
             (all-append (Earlier t before a P (suc j)) (visits t top e list) (trail t top (way .state) piece)
             (all-map (Earlier t before a P j) (Earlier t before a P (suc j))
-            (λ d early. let (v, i, less, way-v, pv, below-v) = early in (v, i, omega arith, way-v, pv, below-v)) (visits t top e list) (way .earlier))
-            (all-map (Under t u) (Earlier t before a P (suc j)) (λ d below-u. (u, j, omega arith, names, pu, below-u)) (trail t top (way .state) piece) (cross .under)));
-        simple = rw states (chain-simple j pu names (visits t top e list) (trail t top (way .state) piece) (way .earlier) (way .simple) (cross .under) (cross .simple));
+            (λ d early. let (v, i, less, way-v, pv, below-v) = early in (v, i, omega arith, way-v, pv, below-v))
+            (visits t top e list) (way .earlier))
+            (all-map (Under t u) (Earlier t before a P (suc j)) (λ d below-u. (u, j, omega arith, names, pu, below-u))
+            (trail t top (way .state) piece) (cross .under)));
+        simple =
+            rw states
+            (chain-simple j pu names (visits t top e list) (trail t top (way .state) piece) (way .earlier) (way .simple)
+            (cross .under) (cross .simple));
       }
 
   module _ (by : ℕ → Option ℕ) (part : ℕ → ℕ → List ℕ) (R : ℕ → ℕ → Type 0) (kind : (n c : ℕ) → R n c → P n) (start-cost : (c : ℕ) → R a c → c ≡ 0)

@@ -17,7 +17,7 @@ use Rattle.definitions.proofs.Local.{LocalRows}
 use Rattle.definitions.proofs.Potential.{Shut, Lands, Frame, Potential, base, deeper, raised-run}
 use Rattle.definitions.proofs.Simple.{inside-root}
 use Rattle.plantheory.specs.Search.{planMove, Accounted}
-use Rattle.plantheory.proofs.Landing.{Opening, Position, land-landed, land-there, parts-plan, position-found}
+use Rattle.plantheory.proofs.Landing.{Opening, land-landed, land-there, parts-plan, opened-found}
 
 module _ {t : Tree} (s : Sound t) (r : Rows) (local : LocalRows t r) (fresh : (m : ℕ) → r .stale m ≡ false) (opened : ℕ → Bool)
     (opening : Opening t opened) (distance : ℕ → Option ℕ) (accounted : Accounted (planMove t r opened) distance) where
@@ -31,8 +31,7 @@ module _ {t : Tree} (s : Sound t) (r : Rows) (local : LocalRows t r) (fresh : (m
       → climb t (t .root) q x ≡ found u v c → nodeExit t r q x ≡ some e
       → (w : ℕ) × (p : ℕ) × (d′ : ℕ) × Lands t opened v w × (t .owner w ≡ some p) × (opened p ≡ true) × (distance w ≡ some d′) × (d′ ≤ d + e + c)
   plan-moves q m d x u v c e own-q op shut dist up exit =
-      let at : Position t opened q = record { machine = m; owned = own-q; machine-opened = op; shut = shut } in
-      let (p, own-v, op-v) = position-found s opening x at up in
+      let (p, own-v, op-v) = opened-found s opening x own-q op up in
       let (w, lands) = land-there s opened own-v in
       let landed = land-landed s opened own-v op-v lands in
       let range = climb-found s (t .root) q x up .range in

@@ -82,7 +82,8 @@ ending-exit {t} s {m} {x = x} {e = e} {list = list} st en end =
 module _ {t : Tree} (s : Sound t) (r : Rows) (attained : (m f : ℕ) → t .start m ≡ some f → Attained t r m f) (top : ℕ) where
   -- the nodes of machine m can be left, each by its part
   abbrev Lower : ℕ → (ℕ → ℕ → List ℕ) → Type 0
-  Lower m part = (u e cost x : ℕ) → t .owner u ≡ some m → x < commands → Enters t u e → nodeExit t r u x ≡ some cost → Leaving t top u x e cost (part u x)
+  Lower m part = (u e cost x : ℕ) → t .owner u ≡ some m → x < commands → Enters t u e → nodeExit t r u x ≡ some cost
+      → Leaving t top u x e cost (part u x)
 
   -- node n of machine m is reached at cost c
   abbrev Reached : ℕ → ℕ → ℕ → Type 0
@@ -109,8 +110,8 @@ module _ {t : Tree} (s : Sound t) (r : Rows) (attained : (m f : ℕ) → t .star
       }
 
   -- every reached node of a machine is reached by its chain
-  row-chained : {m f e n c : ℕ} (part : ℕ → ℕ → List ℕ) → Lower m part → t .start m ≡ some f → Enters t f e → t .owner n ≡ some m → r .cost n ≡ some c
-      → (j : ℕ) × (iterate (r .before) j n ≡ some f)
+  row-chained : {m f e n c : ℕ} (part : ℕ → ℕ → List ℕ) → Lower m part → t .start m ≡ some f → Enters t f e
+      → t .owner n ≡ some m → r .cost n ≡ some c → (j : ℕ) × (iterate (r .before) j n ≡ some f)
       × Chained t top (r .before) f e (λ v. t .owner v ≡ some m) n c j (chainPart nodes (r .before) (r .by) part n)
   row-chained {m} {f} {e} {n} {c} part lower st en own-n cost =
       let row = attained m f st in
@@ -125,8 +126,8 @@ module _ {t : Tree} (s : Sound t) (r : Rows) (attained : (m f : ℕ) → t .star
       )
 
   -- the path of a machine ends in it, at its exit cost
-  path-ending : {m f e : ℕ} (x c : ℕ) (part : ℕ → ℕ → List ℕ) → Lower m part → t .start m ≡ some f → Enters t f e → x < commands → r .exit m x ≡ some c
-      → Ending t top m x e c (pathBy r part m x)
+  path-ending : {m f e : ℕ} (x c : ℕ) (part : ℕ → ℕ → List ℕ) → Lower m part → t .start m ≡ some f → Enters t f e
+      → x < commands → r .exit m x ≡ some c → Ending t top m x e c (pathBy r part m x)
   path-ending {m} {f} {e} x c part lower st en range exit =
       let row = attained m f st in
       let last = row .ended x c range exit in
@@ -134,7 +135,8 @@ module _ {t : Tree} (s : Sound t) (r : Rows) (attained : (m f : ℕ) → t .star
       let (j, names, way) = row-chained part lower st en (last .owned) (last .reached) in
       let out = lower u (way .state) (last .node-exit) x (last .owned) range (way .enters) (last .exits) in
       let chain : List ℕ = chainPart nodes (r .before) (r .by) part u in
-      let states : trail t top e (chain ++ part u x) ≡ visits t top e chain ++ trail t top (way .state) (part u x) = trail-append t top e chain (part u x) (way .runs) in
+      let states : trail t top e (chain ++ part u x) ≡ visits t top e chain ++ trail t top (way .state) (part u x) =
+      trail-append t top e chain (part u x) (way .runs) in
       subst (Ending t top m x e c) (sym (path-last r part m x (last .last)))
       (record {
         node = u;
@@ -183,7 +185,9 @@ module _ {t : Tree} (s : Sound t) (r : Rows) (attained : (m f : ℕ) → t .star
         runs = end .runs;
         climbs = end .climbs ∙ ap (past (end .left)) on ∙ past-past (end .left) (leaving t b) (climb t top u x);
         exact = omega (arith, end .exact);
-        under = all-map (Held t b) (Under t u) (λ k inner. let (v, own-v, below-v) = inner in under-held hold own-v below-v) (trail t top e list) (end .held);
+        under =
+            all-map (Held t b) (Under t u) (λ k inner. let (v, own-v, below-v) = inner in under-held hold own-v below-v)
+            (trail t top e list) (end .held);
         simple = end .simple;
       }
 
@@ -198,7 +202,8 @@ module _ {t : Tree} (s : Sound t) (r : Rows) (attained : (m f : ℕ) → t .star
       let hold = s .below-held u b bel in
       let (c, below-exit, same) = refined-exit t r u x bel exit in
       let lower : Lower b (nodePart k t r) =
-      λ v g a y own-v range-y en-v. leave-part k y own-v (deep-below s own-u bel depth) (omega arith) (inside-wider s hold i (own own-v)) range-y en-v in
+      λ v g a y own-v range-y en-v. leave-part k y own-v (deep-below s own-u bel depth) (omega arith)
+      (inside-wider s hold i (own own-v)) range-y en-v in
       subst₂ (λ (c : ℕ) (list : List ℕ). Leaving t top u x e c list) same (sym (part-refined k t r u x bel))
       (leave-refined i hold (path-ending x c (nodePart k t r) lower st en range below-exit))
 
@@ -211,8 +216,8 @@ module _ {t : Tree} (s : Sound t) (r : Rows) (attained : (m f : ℕ) → t .star
       leave-part levels x own-u depth (omega arith)
 
 -- the path of a machine is its exit, at its exit cost, if the fuel is enough for the levels below
-pub path-exit : {t : Tree} → Sound t → (r : Rows) → ((m f : ℕ) → t .start m ≡ some f → Attained t r m f) → (k : ℕ) {m f d : ℕ} (x c : ℕ) → t .start m ≡ some f
-    → Deep t m d → levels ≤ d + k → x < commands → r .exit m x ≡ some c → exitBy t m x (pathPart k t r m x) ≡ some c
+pub path-exit : {t : Tree} → Sound t → (r : Rows) → ((m f : ℕ) → t .start m ≡ some f → Attained t r m f) → (k : ℕ) {m f d : ℕ} (x c : ℕ)
+    → t .start m ≡ some f → Deep t m d → levels ≤ d + k → x < commands → r .exit m x ≡ some c → exitBy t m x (pathPart k t r m x) ≡ some c
 path-exit {t} s r attained k {m} {f} x c st depth room range exit =
     let (e, en) = enters s (s .start-owned m f st) in
     ending-exit s st en

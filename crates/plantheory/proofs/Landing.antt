@@ -3,16 +3,17 @@
 use mathlib.Core.Path.{_≡_, refl, sym, _∙_, ap, subst}
 use mathlib.Core.Bool.{Bool, true, false, cond, _||_, or-true}
 use mathlib.Core.Option.{Option, none, some}
-use Prim.Native.Nat.{ℕ, zero, suc, _+_, _≤_}
+use Prim.Native.Nat.{ℕ, zero, suc, _+_, _≤_, _<_}
 use native.Mathlib.Omega.{arith}
 use Rattle.definitions.specs.Basics.{_>>=_, option, iterate}
-use Rattle.definitions.specs.Limits.{levels}
+use Rattle.definitions.specs.Limits.{commands, levels}
 use Rattle.definitions.specs.Tree.{Tree, Sound, parent, over}
 use Rattle.definitions.specs.Step.{Climb, found, passed, climb, Arrival}
 use Rattle.definitions.specs.Sheet.{Rows}
 use Rattle.definitions.specs.Truth.{nodeExit}
 use Rattle.definitions.proofs.Options.{bind-some, none-some, some-same}
-use Rattle.definitions.proofs.Path.{Deep, deep, deep-small, deep-below, parent-below, Enters, plain, down, counting-owned, past-found, passed-found}
+use Rattle.definitions.proofs.Path.{Deep, deep, deep-small, deep-below, parent-below, Enters, plain, down}
+use Rattle.definitions.proofs.Path.{counting-owned, past-found, passed-found, climb-found}
 use Rattle.definitions.proofs.Inside.{Climbs, finds, ends, leaves, climbs}
 use Rattle.definitions.proofs.Potential.{Shut, Lands, here, into}
 use Rattle.definitions.proofs.Simple.{over-own, inside-root, inside-over}
@@ -216,16 +217,22 @@ found-opened {t} s op {m = m} (leaves {m = p} {h = h} {up = k} o other hold has 
     let same : m ≡ p = cc in
     let (g, own-h) = s .holder-used p h hold in
     let (d, upper) = past-found _ k (sym at ∙ e) in
-    found-opened s op up own-h (op .upward m g (subst (λ (i : ℕ). parent t i ≡ some g) (sym same) (parent-below s own-h (s .held-below p h hold))) yes-open) upper
+    let above-m : parent t m ≡ some g =
+    subst (λ (i : ℕ). parent t i ≡ some g) (sym same) (parent-below s own-h (s .held-below p h hold)) in
+    found-opened s op up own-h (op .upward m g above-m yes-open) upper
 
--- a command from a position finds a target in an opened machine
-pub position-found : {t : Tree} → Sound t → {opened : ℕ → Bool} → Opening t opened → {q : ℕ} (x : ℕ) {u v c : ℕ} → Position t opened q
-    → climb t (t .root) q x ≡ found u v c → (p : ℕ) × (t .owner v ≡ some p) × (opened p ≡ true)
-position-found s op x at up = found-opened s op (climbs s x (inside-root s (at .owned))) (at .owned) (at .machine-opened) up
+-- a command from a node of an opened machine finds a target in an opened machine
+pub opened-found : {t : Tree} → Sound t → {opened : ℕ → Bool} → Opening t opened → {q m : ℕ} (x : ℕ) {u v c : ℕ} → t .owner q ≡ some m
+    → opened m ≡ true → climb t (t .root) q x ≡ found u v c → (p : ℕ) × (t .owner v ≡ some p) × (opened p ≡ true)
+opened-found s op x own-q yes-open up = found-opened s op (climbs s x (inside-root s own-q)) own-q yes-open up
 
--- a move from a position: its target lands at the node where the move arrives
-pub move-landed : {t : Tree} → Sound t → (r : Rows) {opened : ℕ → Bool} → Opening t opened → {q x : ℕ} {b : Arrival} → Position t opened q
-    → (parts : PlanParts t r opened q x b) → Landed t opened (parts .target) (b .node)
-move-landed s r {opened} op {x = x} at parts =
-    let (p, own-v, yes-open) = position-found s op x at (parts .finds) in
-    land-landed s opened own-v yes-open (parts .lands)
+-- so a move from it arrives at a position, where its target lands
+pub move-landed : {t : Tree} → Sound t → (r : Rows) {opened : ℕ → Bool} → Opening t opened → {q m x : ℕ} {b : Arrival} → t .owner q ≡ some m
+    → opened m ≡ true → (parts : PlanParts t r opened q x b) → Landed t opened (parts .target) (b .node)
+move-landed s r {opened} op {x = x} own-q yes-open parts =
+    let (p, own-v, there) = opened-found s op x own-q yes-open (parts .finds) in
+    land-landed s opened own-v there (parts .lands)
+
+-- only commands move
+pub plan-range : {t : Tree} → Sound t → (r : Rows) (opened : ℕ → Bool) (q x : ℕ) {b : Arrival} → planMove t r opened q x ≡ some b → x < commands
+plan-range {t} s r opened q x e = climb-found s (t .root) q x (plan-parts t r opened q x e .finds) .range

@@ -4,26 +4,28 @@ use mathlib.Core.Path.{_≡_, refl, sym, _∙_, ap, subst}
 use mathlib.Core.Bool.{Bool, false}
 use mathlib.Core.Option.{Option, none, some}
 use mathlib.Core.List.{List, [], _∷_, _++_, append-nil}
-use Prim.Native.Nat.{ℕ, _+_, _-_, _≤_}
+use Prim.Native.Nat.{ℕ, _+_, _-_, _≤_, _<_}
 use native.Mathlib.Omega.{arith}
 use lib.ListN.{length}
-use Rattle.definitions.specs.Basics.{iterate, Distinct}
-use Rattle.definitions.specs.Limits.{nodes, levels}
+use Rattle.definitions.specs.Basics.{iterate, All, Distinct}
+use Rattle.definitions.specs.Limits.{nodes, commands, levels}
 use Rattle.definitions.specs.Tree.{Tree, Sound, states}
-use Rattle.definitions.specs.Step.{Moves, passes}
+use Rattle.definitions.specs.Step.{Arrival, stepIn, runIn, Moves, passes}
 use Rattle.definitions.specs.Costs.{LeastCost}
 use Rattle.definitions.specs.Sheet.{Rows}
 use Rattle.definitions.specs.Truth.{TrueRows}
 use Rattle.definitions.specs.Calls.{Plan}
 use Rattle.definitions.proofs.Options.{none-some, some-same}
 use Rattle.definitions.proofs.Path.{Enters, plain, down, climb-found}
+use Rattle.definitions.proofs.Runs.{run-first}
 use Rattle.definitions.proofs.Local.{LocalRows}
 use Rattle.definitions.proofs.LocalTruth.{true-local}
 use Rattle.definitions.proofs.Realize.{along-names}
-use Rattle.definitions.proofs.Simple.{trail, trail-nil, passes-trail, inside-root, state-test, moves-length}
+use Rattle.definitions.proofs.Simple.{trail, trail-nil, passes-trail, inside-root, state-test, step-stepped, moves-length}
 use Rattle.plantheory.specs.Search.{openedFor, planMove, PlanNamed, PlanSearched}
 use Rattle.plantheory.specs.Expand.{nodePart, planPart}
-use Rattle.plantheory.proofs.Landing.{Opening, opening-for, opened-first, opened-second, Position, plain-position, plan-parts, move-landed}
+use Rattle.plantheory.proofs.Landing.{Opening, opening-for, opened-first, opened-second, Position, plain-position}
+use Rattle.plantheory.proofs.Landing.{plan-parts, move-landed, plan-range}
 use Rattle.plantheory.proofs.Cheapest.{none-cheaper}
 use Rattle.plantheory.proofs.Under.{itself, position-apart}
 use Rattle.plantheory.proofs.Visits.{visits, trail-append}
@@ -35,13 +37,14 @@ plain-enters : {t : Tree} {n e : ℕ} → t .below n ≡ none → Enters t n e �
 plain-enters bel (plain also) = refl
 plain-enters bel (down held st en) = absurd (none-some bel held)
 
+-- what the search finds from state a, in true rows with none stale
 module _ {t : Tree} (s : Sound t) (r : Rows) (rows : TrueRows t r) (fresh : (m : ℕ) → r .stale m ≡ false) (opened : ℕ → Bool)
     (opening : Opening t opened) (a : ℕ) (at-a : Position t opened a) (plain-a : t .below a ≡ none) (distance before by : ℕ → Option ℕ)
     (search : PlanSearched (planMove t r opened) a distance before by) where
   abbrev local : LocalRows t r
   local = true-local s r rows
 
-  -- the node that a reached node names is before it, and the node that it names is the one before
+  -- a reached node with a node before it is not a, and so has its names
   names : {n c u : ℕ} → before n ≡ some u → distance n ≡ some c → PlanNamed (planMove t r opened) distance before by n c
   names {n} {c} {u} e reach =
       search .named n c (λ same. none-some (search .start-before) (subst (λ (v : ℕ). before v ≡ some u) same e)) reach
@@ -54,8 +57,10 @@ module _ {t : Tree} (s : Sound t) (r : Rows) (rows : TrueRows t r) (fresh : (m :
       (λ d at. at-a)
       (λ v u e at-u d reach-v.
       let name = names e reach-v in
-      let at = subst (λ (w : ℕ). (k : ℕ) → distance w ≡ some k → Position t opened w) (some-same e (name .names-node)) at-u (name .node-cost) (name .reached) in
-      move-landed s r opening at (plan-parts t r opened (name .node) (name .command) (name .moves)) .position)
+      let at =
+      subst (λ (w : ℕ). (k : ℕ) → distance w ≡ some k → Position t opened w) (some-same e (name .names-node)) at-u
+      (name .node-cost) (name .reached) in
+      move-landed s r opening (at .owned) (at .machine-opened) (plan-parts t r opened (name .node) (name .command) (name .moves)) .position)
       k n way c reach
 
   -- the names of the search link its positions
@@ -65,8 +70,8 @@ module _ {t : Tree} (s : Sound t) (r : Rows) (rows : TrueRows t r) (fresh : (m :
       let name = search .named n c other reach in
       let parts = plan-parts t r opened (name .node) (name .command) (name .moves) in
       let at = reached-position (name .node) (name .node-cost) (name .reached) in
-      let range = climb-found s (t .root) (name .node) (name .command) (parts .finds) .range in
-      let landed = move-landed s r opening at parts in
+      let range = plan-range s r opened (name .node) (name .command) (name .moves) in
+      let landed = move-landed s r opening (at .owned) (at .machine-opened) parts in
       record {
         node = name .node;
         command = name .command;
@@ -78,7 +83,8 @@ module _ {t : Tree} (s : Sound t) (r : Rows) (rows : TrueRows t r) (fresh : (m :
         crossed =
             λ e en.
             crosses s
-            (leave-node s r (λ m f st. local .attained m f st (fresh m)) (t .root) (name .command) (at .owned) (inside-root s (at .owned)) range en (parts .exit))
+            (leave-node s r (λ m f st. local .attained m f st (fresh m)) (t .root) (name .command) (at .owned)
+            (inside-root s (at .owned)) range en (parts .exit))
             (parts .finds) (landed .enters);
         exact = omega (arith, parts .exact, name .exact);
       }
@@ -110,22 +116,23 @@ module _ {t : Tree} (s : Sound t) (r : Rows) (rows : TrueRows t r) (fresh : (m :
       ∙ ap (λ (l : List ℕ). visits t (t .root) a list ++ l) (trail-nil t (t .root) (way .state)) in (
         way .runs ∙ ap (λ (n : ℕ). some (record { node = n; cost = c })) same,
         subst Distinct (sym passed)
-            (chain-simple t (t .root) before a a (search .start-before) (Position t opened) (position-apart s opening) j (reached-position b c reach) back
-            (visits t (t .root) a list) (way .state ∷ []) (way .earlier) (way .simple) (itself (sym same), tt) (tt, tt)),
+            (chain-simple t (t .root) before a a (search .start-before) (Position t opened) (position-apart s opening) j
+            (reached-position b c reach) back (visits t (t .root) a list) (way .state ∷ []) (way .earlier) (way .simple)
+            (itself (sym same), tt) (tt, tt)),
       )
 
   -- a list to a state of an opened machine costs at least its distance
   pub plan-least : (b : ℕ) → Position t opened b → (xs : List ℕ) (c : ℕ) → Moves t a b xs c → (d : ℕ) × (distance b ≡ some d) × (d ≤ c)
   plan-least b at-b =
-      none-cheaper s r local fresh opened opening distance (search .accounted) (at-a .owned) (at-a .machine-opened) plain-a (at-b .owned) (at-b .machine-opened)
-      (search .start-distance)
+      none-cheaper s r local fresh opened opening distance (search .accounted) (at-a .owned) (at-a .machine-opened) plain-a
+      (at-b .owned) (at-b .machine-opened) (search .start-distance)
 
 -- what a plan of this list from a to b, at the distance of b, has to be: a cheapest list; and no way where b has no distance
 abbrev pub Planned : Tree → ℕ → ℕ → List ℕ → Option ℕ → Type 0
 Planned t a b list none = LeastCost t a b none
 Planned t a b list (some cost) = Plan t a b cost list
 
--- the machines above a and b, or any others closed upward
+-- so it is, whichever machines the search opens
 pub planned-in : {t : Tree} → Sound t → (r : Rows) → TrueRows t r → ((m : ℕ) → r .stale m ≡ false) → (opened : ℕ → Bool) → Opening t opened
     → {a b : ℕ} → Position t opened a → t .below a ≡ none → Position t opened b → t .below b ≡ none → {distance before by : ℕ → Option ℕ}
     → PlanSearched (planMove t r opened) a distance before by → (o : Option ℕ) → distance b ≡ o → Planned t a b (planPart t r before by b) o
@@ -161,3 +168,13 @@ pub plan-count : {t : Tree} → Sound t → {a b m cost : ℕ} {list : List ℕ}
     → length list ≤ states t - 1
 plan-count {t} s {a} {b} {cost = cost} {list = list} own-a plain-a plan =
     omega (arith, moves-length s a b list cost (state-test t own-a plain-a) (plan .moves) (plan .simple))
+
+-- and all of them are commands
+run-commands : {t : Tree} → Sound t → (top n : ℕ) (xs : List ℕ) {a : Arrival} → runIn t top n xs ≡ some a → All (λ x. x < commands) xs
+run-commands s top n [] e = tt
+run-commands {t} s top n (x ∷ xs) e =
+    let first = run-first (stepIn t top) n x xs e in
+    (climb-found s top n x (step-stepped t top n x (first .step) .finds) .range, run-commands s top (first .mid .node) xs (first .rest))
+
+pub plan-commands : {t : Tree} → Sound t → {a b cost : ℕ} {list : List ℕ} → Plan t a b cost list → All (λ x. x < commands) list
+plan-commands {t} s {a} {list = list} plan = run-commands s (t .root) a list (plan .moves)

@@ -67,7 +67,9 @@ visits-last t top s [] x = ap (λ (l : List ℕ). s ∷ l) (go (stepIn t top s x
     go : (o : Option Arrival) → option {B = List ℕ} [] (λ a. []) o ≡ []
     go none = refl
     go (some a) = refl
-visits-last t top s (y ∷ xs) x = ap (λ (f : ℕ → List ℕ). s ∷ option [] (λ a. f (a .node)) (stepIn t top s y)) (fun-ext (λ n. visits-last t top n xs x))
+visits-last t top s (y ∷ xs) x =
+    ap (λ (f : ℕ → List ℕ). s ∷ option [] (λ a. f (a .node)) (stepIn t top s y))
+    (fun-ext (λ n. visits-last t top n xs x))
 
 -- so two lists in a row pass the states from which the first is given, and then those that the second passes
 pub trail-append : (t : Tree) (top s : ℕ) (xs ys : List ℕ) {a : Arrival} → runIn t top s xs ≡ some a

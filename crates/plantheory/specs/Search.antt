@@ -35,7 +35,8 @@ planMove t r opened q x = nodeExit t r q x >>= λ e. arrives t opened e (climb t
 -- every move from a reached node is accounted for
 abbrev pub Accounted : (ℕ → ℕ → Option Arrival) → (ℕ → Option ℕ) → Type 0
 Accounted move distance =
-    (q d x : ℕ) (b : Arrival) → distance q ≡ some d → x < commands → move q x ≡ some b → (c : ℕ) × (distance (b .node) ≡ some c) × (c ≤ d + b .cost)
+    (q d x : ℕ) (b : Arrival) → distance q ≡ some d → x < commands → move q x ≡ some b
+    → (c : ℕ) × (distance (b .node) ≡ some c) × (c ≤ d + b .cost)
 
 -- node n, reached at cost c, names a move of a reached node that leads to n at exactly this cost
 pub record PlanNamed (move : ℕ → ℕ → Option Arrival) (distance before by : ℕ → Option ℕ) (n c : ℕ) : Type 0 where
