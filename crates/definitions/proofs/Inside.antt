@@ -116,7 +116,7 @@ abbrev pub beyond : ℕ → Climb → Climb → Climb
 beyond l up (found u v c) = found u v c
 beyond l up (passed c) = past (c + l) up
 
-past-past : (l k : ℕ) (c : Climb) → past l (past k c) ≡ past (l + k) c
+pub past-past : (l k : ℕ) (c : Climb) → past l (past k c) ≡ past (l + k) c
 past-past l k (found u v c) = ap (λ (d : ℕ). found u v d) (sym (add-assoc l k c))
 past-past l k (passed c) = ap (λ (d : ℕ). passed d) (sym (add-assoc l k c))
 

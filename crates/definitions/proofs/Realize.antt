@@ -68,7 +68,7 @@ pub record Leaves (t : Tree) (top u x e cost : ℕ) : Type 0 where
   pub climbs : climb t top (at .node) x ≡ past left (climb t top u x)
   pub exact : at .cost + left ≡ cost
 
-past-zero : (k : Climb) → k ≡ past 0 k
+pub past-zero : (k : Climb) → k ≡ past 0 k
 past-zero (found u v c) = ap (λ (d : ℕ). found u v d) (omega arith)
 past-zero (passed c) = ap (λ (d : ℕ). passed d) (omega arith)
 

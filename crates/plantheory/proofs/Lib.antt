@@ -1,0 +1,9 @@
+pub mod Landing
+pub mod Cheapest
+pub mod Bounds
+pub mod Under
+pub mod Visits
+pub mod Chain
+pub mod Expanded
+pub mod Planned
+pub mod Worked
