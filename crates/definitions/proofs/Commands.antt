@@ -29,12 +29,12 @@ passed k true rest e = absurd (omega arith)
 passed k false rest e = (refl, e)
 
 -- neither of two tests holds
-neither : {a b : Bool} → (a || b) ≡ false → (a ≡ false) × (b ≡ false)
+pub neither : {a b : Bool} → (a || b) ≡ false → (a ≡ false) × (b ≡ false)
 neither {a = true} e = absurd (true-false refl e)
 neither {a = false} e = (refl, e)
 
 -- a test that is not true is false
-not-true-false : {b : Bool} → (b ≡ true → ⊥) → b ≡ false
+pub not-true-false : {b : Bool} → (b ≡ true → ⊥) → b ≡ false
 not-true-false {b} h = ⊎-elim (λ holds. absurd (h holds)) (λ e. e) (decided b)
 
 -- a number is in range
@@ -722,7 +722,7 @@ pub record Removed (t : Tree) (n : ℕ) (u : Tree) (r q : Rows) : Type 0 where
 held-test : (t : Tree) (n p : ℕ) → HeldWithin t n p → heldWithin t n p ≡ true
 held-test t n p w = rw (w .held) (w .inside)
 
-free-test : (t : Tree) (n p : ℕ) → (HeldWithin t n p → ⊥) → heldWithin t n p ≡ false
+pub free-test : (t : Tree) (n p : ℕ) → (HeldWithin t n p → ⊥) → heldWithin t n p ≡ false
 free-test t n p free =
     ⊎-elim (λ none-holds. rw none-holds)
     (λ h. rw (h .1) (not-true-false (λ e. free (record { holder = h .0; held = h .1; inside = e }))))

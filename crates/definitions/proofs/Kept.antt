@@ -305,7 +305,7 @@ kept-up {t} s n {d} {m} own off =
     ⊎-elim (λ free. rw free) (λ h. rw (h .1) (second-off (eqb n d) (sym (within-up s n own (h .1)) ∙ off))) (present (t .holder m))
 
 -- and the other way, but for n itself
-kept-down : {t : Tree} → Sound t → (n : ℕ) {d m : ℕ} → t .owner d ≡ some m → (n ≡ d → ⊥) → heldWithin t n m ≡ false → within t n d ≡ false
+pub kept-down : {t : Tree} → Sound t → (n : ℕ) {d m : ℕ} → t .owner d ≡ some m → (n ≡ d → ⊥) → heldWithin t n m ≡ false → within t n d ≡ false
 kept-down {t} s n {d} {m} own other off =
     ⊎-elim (λ free. within-top t n own free ∙ ne-eqb n d other)
     (λ h. within-up s n own (h .1) ∙ rw (ne-eqb n d other) (rw (h .1) at off)) (present (t .holder m))
@@ -540,7 +540,7 @@ decode-range op bytes h =
     (either-way W (eqb op 0x15) tt (either-way W (eqb op 0x16) tt (either-way W (eqb op 0x17) tt tt)))))))
 
 -- the rest of a list of bytes is one
-drop-bytes : (size : ℕ) (bytes : List ℕ) → Bytes bytes → Bytes (drop size bytes)
+pub drop-bytes : (size : ℕ) (bytes : List ℕ) → Bytes bytes → Bytes (drop size bytes)
 drop-bytes zero bytes h = h
 drop-bytes (suc n) [] h = h
 drop-bytes (suc n) (b ∷ rest) h = drop-bytes n rest (h .1)

@@ -15,3 +15,5 @@ pub mod Worked
 pub mod Streams
 pub mod Kept
 pub mod Opened
+pub mod Tests
+pub mod Mast

@@ -18,7 +18,7 @@ use Rattle.definitions.specs.Sheet.{Rows}
 use Rattle.definitions.specs.Truth.{nodeExit, move, walk, LeastWalk, TrueMachine, TrueRows}
 use Rattle.definitions.proofs.Options.{none-some, some-same, true-false, decided}
 use Rattle.definitions.proofs.Path.{parent-below, enters, enters-state, Inside, own, counting-owned, climb-own, climb-top, passed-found}
-use Rattle.definitions.proofs.Runs.{run-nil, run-first, run-cons, run-join}
+use Rattle.definitions.proofs.Runs.{run-nil, run-cons, run-join, Bounded, bounded-run}
 use Rattle.definitions.proofs.Inside.{inside-apart}
 use Rattle.definitions.proofs.Local.{Relaxed, Attained, LocalRows, exit-plain, move-by, move-parts}
 use Rattle.definitions.proofs.Potential.{Shut, Lands, here, Frame, Potential, base, Comes, comes, potential-enters, raised-run}
@@ -31,7 +31,7 @@ pub filled-below : (t : Tree) (r : Rows) → ((m p : ℕ) → r .stale m ≡ tru
 filled-below t r up m p above full = ⊎-elim (λ stale. absurd (true-false (up m p stale above) full)) (λ e. e) (decided (r .stale m))
 
 -- the moves of a machine stay in it
-move-owned : {t : Tree} → Sound t → (r : Rows) (n x : ℕ) {m : ℕ} {b : Arrival} → t .owner n ≡ some m → move t r n x ≡ some b → t .owner (b .node) ≡ some m
+pub move-owned : {t : Tree} → Sound t → (r : Rows) (n x : ℕ) {m : ℕ} {b : Arrival} → t .owner n ≡ some m → move t r n x ≡ some b → t .owner (b .node) ≡ some m
 move-owned {t} s r n x {m} own-n e =
     let parts = move-parts t r n x e in
     subst (λ (v : ℕ). t .owner v ≡ some m) (parts .target) (counting-owned s n x (parts .transition) (parts .has) own-n)
@@ -40,14 +40,10 @@ move-owned {t} s r n x {m} own-n e =
 
 -- in a relaxed row no list of moves is cheaper than what stands there
 relaxed-walk : {t : Tree} → Sound t → (r : Rows) {m f : ℕ} → Relaxed t r m f → {n : ℕ} (c : ℕ) (xs : List ℕ) {b : Arrival} → t .owner n ≡ some m
-    → r .cost n ≡ some c → walk t r n xs ≡ some b → (d : ℕ) × (r .cost (b .node) ≡ some d) × (d ≤ c + b .cost)
-relaxed-walk {t} s r row {n} c [] {b} own-n cost e =
-    subst (λ (z : Arrival). (d : ℕ) × (r .cost (z .node) ≡ some d) × (d ≤ c + z .cost)) (some-same (run-nil (move t r) n) e) (c, cost, omega arith)
-relaxed-walk {t} s r row {n} c (x ∷ xs) own-n cost e =
-    let first = run-first (move t r) n x xs e in
-    let (d₁, cost₁, le₁) = row .moves n c x (first .mid) own-n cost (first .step) in
-    let (d₂, cost₂, le₂) = relaxed-walk s r row d₁ xs (move-owned s r n x own-n (first .step)) cost₁ (first .rest) in
-    subst (λ (z : Arrival). (d : ℕ) × (r .cost (z .node) ≡ some d) × (d ≤ c + z .cost)) (first .joins) (d₂, cost₂, omega arith)
+    → r .cost n ≡ some c → walk t r n xs ≡ some b → Bounded (r .cost) c b
+relaxed-walk {t} s r {m} row {n} c xs own-n cost e =
+    bounded-run (move t r) (r .cost) (λ u. t .owner u ≡ some m)
+    (λ u d x a own-u cost-u step. (move-owned s r u x own-u step, row .moves u d x a own-u cost-u step)) n c xs own-n cost e
 
 -- one move more
 walk-on : (t : Tree) (r : Rows) (n x : ℕ) (xs : List ℕ) {u v c d : ℕ} → walk t r n xs ≡ some (record { node = u; cost = c })

@@ -1,8 +1,9 @@
--- Runs of lists of commands: one command more in front, and two lists in a row. Assumes nothing.
-use mathlib.Core.Path.{_≡_, refl, sym, _∙_, ap}
+-- Runs of lists of commands: one command more in front, two lists in a row, and bounds that no step breaks. Assumes nothing.
+use mathlib.Core.Path.{_≡_, refl, sym, _∙_, ap, subst}
 use mathlib.Core.Option.{Option, none, some}
 use mathlib.Core.List.{List, [], _∷_, _++_}
-use Prim.Native.Nat.{ℕ, _+_}
+use Prim.Native.Nat.{ℕ, _+_, _≤_}
+use native.Mathlib.Omega.{arith}
 use native.Mathlib.Nat.{zero-add, add-assoc}
 use Rattle.definitions.specs.Basics.{_>>=_}
 use Rattle.definitions.specs.Step.{Arrival, runBy}
@@ -84,3 +85,20 @@ run-append f n (x ∷ xs) ys = go (f n x) (λ m. run-append f m xs ys)
 pub run-join : (f : ℕ → ℕ → Option Arrival) (n : ℕ) (xs ys : List ℕ) {a b : Arrival} → runBy f n xs ≡ some a → runBy f (a .node) ys ≡ some b
     → runBy f n (xs ++ ys) ≡ some (onto a b)
 run-join f n xs ys e rest = run-append f n xs ys ∙ rw (e, rest)
+
+-- ---- bounds
+
+-- the node of an arrival has a bound, which is at most c and what the way there cost
+abbrev pub Bounded : (ℕ → Option ℕ) → ℕ → Arrival → Type 0
+Bounded bound c a = (d : ℕ) × (bound (a .node) ≡ some d) × (d ≤ c + a .cost)
+
+-- where no step from a node with the property raises the bound by more than it costs, and each leads to such a node, no list does
+pub bounded-run : (f : ℕ → ℕ → Option Arrival) (bound : ℕ → Option ℕ) (P : ℕ → Type 0)
+    → ((n c x : ℕ) (a : Arrival) → P n → bound n ≡ some c → f n x ≡ some a → P (a .node) × Bounded bound c a)
+    → (n c : ℕ) (xs : List ℕ) {a : Arrival} → P n → bound n ≡ some c → runBy f n xs ≡ some a → Bounded bound c a
+bounded-run f bound P keeps n c [] holds value e = subst (Bounded bound c) (some-same (run-nil f n) e) (c, value, omega arith)
+bounded-run f bound P keeps n c (x ∷ xs) holds value e =
+    let first = run-first f n x xs e in
+    let (holds₁, (c₁, value₁, le₁)) = keeps n c x (first .mid) holds value (first .step) in
+    let (c₂, value₂, le₂) = bounded-run f bound P keeps (first .mid .node) c₁ xs holds₁ value₁ (first .rest) in
+    subst (Bounded bound c) (first .joins) (c₂, value₂, omega arith)

@@ -139,7 +139,7 @@ edited t (refine n m s) =
       below = put (t .below) n (some m);
       start = put (t .start) m (some s);
       holder = put (t .holder) m (some n);
-      transition = t .transition;
+      transition = t .transition;  -- the refined node keeps its own
     }
 edited t (remove n) = without t n
 edited t (arrow n x v c) = withTransition t n x (some (record { target = v; cost = c }))

@@ -6,7 +6,8 @@ ghost use Rattle.definitions.specs.Limits.{commands};
 ghost use Rattle.definitions.specs.Tree.{Tree};
 ghost use Rattle.definitions.specs.Book.{treeOf, WellFormed};
 ghost use Rattle.definitions.specs.Step.{enter, climb, step};
-ghost use Rattle.stepping.specs.Meaning.{Used, climbOf, stepOf};
+ghost use Rattle.definitions.specs.Calls.{StepSays};
+ghost use Rattle.stepping.specs.Meaning.{Used, climbOf, stepOf, StatesJudged, answerOf};
 
 // Where a command finds a transition: the node that has it, its target and its cost.
 pub enum Climbed {
@@ -18,6 +19,12 @@ pub enum Climbed {
 pub enum Stepped {
     Moved { state: u32, cost: u32 },
     Stopped,
+}
+
+// Step's answer: the state and the cost, or a refusal's number.
+pub enum StepAnswer {
+    Moved { state: u32, cost: u32 },
+    Refused(u32),
 }
 
 // The lowest node, s itself first and then the nodes that hold it, that has a transition for x.
@@ -73,5 +80,60 @@ pub fn step_from(book: &[u32], s: u32, x: u32) -> Stepped
             cost,
         },
         Climbed::Passed => Stepped::Stopped,
+    }
+}
+
+// The refusal of two numbers that are to be states, 0 where there is none: 6 (out of range), 7 (not in use), 14 (not plain).
+pub fn judge_states(book: &[u32], a: u32, b: u32) -> u32
+    requires { ⌜ WellFormed (now book) ⌝ }
+    ensures { λ r. ⌜ StatesJudged (treeOf (now (book .entry))) a b r ⌝ }
+{
+    if book::NODES <= a {
+        return 6;
+    }
+    if book::NODES <= b {
+        return 6;
+    }
+    if book::owner(book, a) == book::ABSENT {
+        return 7;
+    }
+    if book::owner(book, b) == book::ABSENT {
+        return 7;
+    }
+    if book::below(book, a) != book::ABSENT {
+        return 14;
+    }
+    if book::below(book, b) != book::ABSENT {
+        return 14;
+    }
+    0
+}
+
+// Step: the state that a command leads to from a state, and its cost. It reads only the book. It refuses 1 (a wrong length),
+// 2 (book not well formed), 6 (number out of range), 7 (node not in use), 14 (node not plain), 17 (the station stops).
+pub fn step(book: &[u32], state: u32, command: u32) -> StepAnswer
+    ensures { λ r. ⌜ StepSays (now (book .entry)) state command (answerOf r) ⌝ }
+{
+    if book.len() != book::BOOK {
+        return StepAnswer::Refused(1);
+    }
+    if !wellformed::well_formed(book) {
+        return StepAnswer::Refused(2);
+    }
+    if book::NODES <= state {
+        return StepAnswer::Refused(6);
+    }
+    if book::COMMANDS <= command {
+        return StepAnswer::Refused(6);
+    }
+    if book::owner(book, state) == book::ABSENT {
+        return StepAnswer::Refused(7);
+    }
+    if book::below(book, state) != book::ABSENT {
+        return StepAnswer::Refused(14);
+    }
+    match step_from(book, state, command) {
+        Stepped::Moved { state, cost } => StepAnswer::Moved { state, cost },
+        Stepped::Stopped => StepAnswer::Refused(17),
     }
 }

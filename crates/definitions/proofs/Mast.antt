@@ -1,0 +1,232 @@
+-- The mast book of document 01: its starred examples, by computing with the definitions; and that an exit may end inside its machine.
+-- Assumes nothing.
+use mathlib.Core.Path.{_≡_, refl}
+use mathlib.Core.Logic.{inl, inr}
+use mathlib.Core.Bool.{false}
+use mathlib.Core.Option.{Option, none, some}
+use mathlib.Core.List.{List, [], _∷_}
+use Prim.Native.Nat.{ℕ, zero, suc, _<_}
+use native.Mathlib.Omega.{arith}
+use lib.ListN.{getD}
+use Rattle.definitions.specs.Basics.{iterate, countBelow, anyBelow, All, Distinct}
+use Rattle.definitions.specs.Limits.{commands}
+use Rattle.definitions.specs.Tree.{Tree, Sound, states, above, pathF, path, level}
+use Rattle.definitions.specs.Step.{enterF, enter, counting, leaving, look, climb, stepIn, step, Moves, runBy, passes}
+use Rattle.definitions.specs.Costs.{LeastCost, ExitCost}
+use Rattle.definitions.specs.Book.{under, encode}
+use Rattle.definitions.specs.Sheet.{Rows, encodeRows}
+use Rattle.definitions.specs.Truth.{nodeExit, move}
+use Rattle.definitions.specs.Stream.{operandLength, decode, readNext}
+use Rattle.definitions.specs.Edit.{firstHolding, refusals, refusal, single, withTransition, edited}
+use Rattle.definitions.specs.Load.{next, loadF, load, expected}
+use Rattle.definitions.specs.Open.{freshTree, fresh, openTree}
+use Rattle.definitions.specs.Answer.{gives, refuses}
+use Rattle.definitions.specs.Calls.{Plan, StepSays}
+use Rattle.definitions.specs.Demand.{Bytes}
+use Rattle.definitions.specs.Mast.{mastStream, clearing, mastAfter, mastTree, RefusedWith16, MastExamples}
+use Rattle.definitions.proofs.Options.{none-some}
+use Rattle.definitions.proofs.Kept.{expected-sound}
+use Rattle.definitions.proofs.Opened.{open-sound}
+use Rattle.definitions.proofs.Tests.{allBelow, allUnder, listed, accounted, boundsTest, capped, freshRows, blankMachine, blankNode}
+use Rattle.definitions.proofs.Tests.{namedTest, chainTest, leftTest, endedTest, machineTest, reachedTest, nodeTest, rowsTest}
+use Rattle.definitions.proofs.Tests.{all-under, bound-least, bound-plan, bound-none, step-says}
+use Rattle.definitions.proofs.Tests.{tested-exit, tested-sheet, tested-refused}
+
+-- the stream that gives node 1 a transition to itself for command 2
+unfoldable pub looping : List ℕ
+looping = 0x14 ∷ 0x00 ∷ 0x01 ∷ 0x02 ∷ 0x00 ∷ 0x01 ∷ 0x00 ∷ 0x06 ∷ []
+
+-- ---- the costs of the states from state 0 and from state 11
+
+from-0 : ℕ → Option ℕ
+from-0 = listed ((0, 0) ∷ (10, 5) ∷ (11, 9) ∷ (2, 12) ∷ [])
+
+from-11 : ℕ → Option ℕ
+from-11 = listed ((11, 0) ∷ (2, 3) ∷ (0, 10) ∷ (10, 15) ∷ [])
+
+-- from state 0 without the transition of 10 for 1, without that of 1 for 1, and without this one and that of 0 for 2
+without-10-1 : ℕ → Option ℕ
+without-10-1 = listed ((0, 0) ∷ (10, 5) ∷ (11, 9) ∷ (2, 8) ∷ [])
+
+without-1-1 : ℕ → Option ℕ
+without-1-1 = listed ((0, 0) ∷ (10, 5) ∷ (11, 9) ∷ (2, 20) ∷ [])
+
+without-both : ℕ → Option ℕ
+without-both = listed ((0, 0) ∷ (10, 5) ∷ (11, 9) ∷ [])
+
+-- ---- the rows
+
+-- what stands for machine 0, and for machine 1
+two : (ℕ → ℕ) → (ℕ → ℕ) → ℕ → ℕ → Option ℕ
+two f g zero x = some (f x)
+two f g (suc zero) x = some (g x)
+two f g (suc (suc m)) x = none
+
+-- The rows of the two machines. For the first commands machine 0 has these exit costs and last nodes, and its nodes have these costs
+-- and names; by all other commands it is left from node 0. Machine 1 has the same row in every example.
+rowsWith : (exits lasts : List ℕ) (cost before by : List (ℕ × ℕ)) → Rows
+rowsWith exits lasts cost before by =
+    record {
+      stale = λ m. false;
+      exit = two (λ x. getD exits x 0) (λ x. getD (0 ∷ 4 ∷ 4 ∷ []) x 0);
+      last = two (λ x. getD lasts x 0) (λ x. getD (10 ∷ 11 ∷ 11 ∷ []) x 10);
+      cost = listed ((10, 0) ∷ (11, 4) ∷ cost);
+      before = listed ((11, 10) ∷ before);
+      by = listed ((11, 2) ∷ by);
+    }
+
+-- all nodes are reached
+rowsFor : (exits lasts : List ℕ) → Rows
+rowsFor exits lasts = rowsWith exits lasts ((0, 0) ∷ (1, 5) ∷ (2, 12) ∷ []) ((1, 0) ∷ (2, 1) ∷ []) ((1, 0) ∷ (2, 1) ∷ [])
+
+mastRows : Rows
+mastRows = rowsFor (5 ∷ 0 ∷ 9 ∷ []) (1 ∷ 0 ∷ 1 ∷ [])
+
+-- with the transition of node 1 to itself for 2, which is then left from node 2
+loopRows : Rows
+loopRows = rowsFor (5 ∷ 0 ∷ 12 ∷ []) (1 ∷ 0 ∷ 2 ∷ [])
+
+-- without the transitions of 1 for 1 and of 0 for 2: node 2 is not reached
+clearedRows : Rows
+clearedRows = rowsWith (5 ∷ []) (1 ∷ []) ((0, 0) ∷ (1, 5) ∷ []) ((1, 0) ∷ []) ((1, 0) ∷ [])
+
+-- ---- to open these is to open everything that the examples compute with
+
+reading : Tree
+unfolding load loadF next expected operandLength decode readNext firstHolding refusals refusal level allUnder mastStream looping
+reading = freshTree
+
+editing : Tree
+unfolding freshTree single withTransition edited mastAfter mastTree
+editing = freshTree
+
+stepping : Tree
+unfolding above pathF path enterF enter counting leaving look climb stepIn runBy passes countBelow states nodeExit move iterate
+stepping = freshTree
+
+testing : Tree
+unfolding allBelow anyBelow listed accounted boundsTest under capped freshRows blankMachine blankNode namedTest chainTest leftTest
+testing = freshTree
+
+tables : Tree
+unfolding two rowsWith rowsFor mastRows loopRows clearedRows from-0 from-11 without-10-1 without-1-1 without-both
+tables = freshTree
+
+computing : Tree
+unfolding reading editing stepping testing tables endedTest machineTest reachedTest nodeTest rowsTest
+computing = freshTree
+
+-- ---- the examples
+
+-- the stream is taken whole
+whole : (load (openTree fresh) mastStream .bytes ≡ 70) × (load (openTree fresh) mastStream .number ≡ 0)
+unfolding computing
+whole = (refl, refl)
+
+-- the stations are sound
+after-sound : (streams : List (List ℕ)) → All Bytes streams → Sound (mastAfter streams)
+unfolding computing
+after-sound streams bytes = expected-sound (open-sound fresh) (mastStream ∷ streams) (all-under 256 mastStream refl, bytes)
+
+sound : Sound mastTree
+unfolding mastTree
+sound = after-sound [] tt
+
+-- the plans
+from-0-to : (b c : ℕ) (xs : List ℕ) → from-0 b ≡ some c → Moves mastTree 0 b xs c → Distinct (passes mastTree 0 xs)
+    → Plan mastTree 0 b c xs
+unfolding computing
+from-0-to = bound-plan mastTree sound from-0 refl 0 (omega arith) refl
+
+from-0-to-2 : Plan mastTree 0 2 12 (0 ∷ 2 ∷ 1 ∷ [])
+unfolding computing
+from-0-to-2 = from-0-to 2 12 (0 ∷ 2 ∷ 1 ∷ []) refl refl (omega arith)
+
+from-0-to-0 : Plan mastTree 0 0 0 []
+unfolding computing
+from-0-to-0 = from-0-to 0 0 [] refl refl (omega arith)
+
+from-11-to-10 : Plan mastTree 11 10 15 (1 ∷ 0 ∷ 0 ∷ [])
+unfolding computing
+from-11-to-10 = bound-plan mastTree sound from-11 refl 11 (omega arith) refl 10 15 (1 ∷ 0 ∷ 0 ∷ []) refl refl (omega arith)
+
+-- the exit costs
+exit-of : (m f x c : ℕ) → mastTree .start m ≡ some f → x < commands → freshRows mastRows .exit m x ≡ some c
+    → ExitCost mastTree m x (some c)
+unfolding computing
+exit-of m f x c = tested-exit mastTree sound mastRows refl m f x (some c)
+
+exits-of-1 : ExitCost mastTree 1 0 (some 0) × ExitCost mastTree 1 1 (some 4) × ExitCost mastTree 1 2 (some 4)
+unfolding computing
+exits-of-1 = (exit-of 1 10 0 0 refl (omega arith) refl, exit-of 1 10 1 4 refl (omega arith) refl, exit-of 1 10 2 4 refl (omega arith) refl)
+
+exits-of-0 : ExitCost mastTree 0 0 (some 5) × ExitCost mastTree 0 1 (some 0) × ExitCost mastTree 0 2 (some 9)
+unfolding computing
+exits-of-0 = (exit-of 0 0 0 5 refl (omega arith) refl, exit-of 0 0 1 0 refl (omega arith) refl, exit-of 0 0 2 9 refl (omega arith) refl)
+
+-- the steps
+step-11-by-1 : StepSays (encode mastTree) 11 1 (gives (2 ∷ 3 ∷ []))
+unfolding computing
+step-11-by-1 =
+    step-says mastTree sound 11 1 (gives (2 ∷ 3 ∷ [])) (omega arith) (omega arith) {p = 1} refl
+    (inr (λ refined. refined refl, inr (λ stops. none-some stops refl, (record { node = 2; cost = 3 }, refl, refl))))
+
+step-11-by-0 : StepSays (encode mastTree) 11 0 (refuses 17)
+unfolding computing
+step-11-by-0 =
+    step-says mastTree sound 11 0 (refuses 17) (omega arith) (omega arith) {p = 1} refl (inr (λ refined. refined refl, inl (refl, refl)))
+
+step-1 : (x : ℕ) → x < commands → StepSays (encode mastTree) 1 x (refuses 14)
+unfolding computing
+step-1 x range = step-says mastTree sound 1 x (refuses 14) (omega arith) range {p = 0} refl (inl (λ plain. none-some plain refl, refl))
+
+-- with transitions cleared
+cleared-10-1 : LeastCost (mastAfter (clearing 10 1 ∷ [])) 0 2 (some 8)
+unfolding computing
+cleared-10-1 =
+    bound-least (mastAfter (clearing 10 1 ∷ [])) (after-sound (clearing 10 1 ∷ []) (omega arith)) without-10-1 refl 0 (omega arith) refl
+    2 8 (0 ∷ 1 ∷ []) refl refl
+
+cleared-1-1 : LeastCost (mastAfter (clearing 1 1 ∷ [])) 0 2 (some 20)
+unfolding computing
+cleared-1-1 =
+    bound-least (mastAfter (clearing 1 1 ∷ [])) (after-sound (clearing 1 1 ∷ []) (omega arith)) without-1-1 refl 0 (omega arith) refl
+    2 20 (2 ∷ []) refl refl
+
+cleared-both : RefusedWith16 (mastAfter (clearing 1 1 ∷ clearing 0 2 ∷ [])) 0 2 3
+unfolding computing
+cleared-both =
+    let t : Tree = mastAfter (clearing 1 1 ∷ clearing 0 2 ∷ []) in
+    let s : Sound t = after-sound (clearing 1 1 ∷ clearing 0 2 ∷ []) (omega arith) in
+    record {
+      sheet = encodeRows (freshRows clearedRows);
+      sheet-true = tested-sheet t s clearedRows refl;
+      answer = tested-refused t s clearedRows refl 0 2 refl refl (bound-none t s without-both refl 0 (omega arith) refl 2 refl);
+    }
+
+-- document 01's starred examples
+pub mast-examples : MastExamples
+mast-examples =
+    record {
+      whole = whole;
+      from-0-to-2 = from-0-to-2;
+      from-11-to-10 = from-11-to-10;
+      from-0-to-0 = from-0-to-0;
+      exits-of-1 = exits-of-1;
+      exits-of-0 = exits-of-0;
+      step-11-by-1 = step-11-by-1;
+      step-11-by-0 = step-11-by-0;
+      step-1 = step-1;
+      cleared-10-1 = cleared-10-1;
+      cleared-1-1 = cleared-1-1;
+      cleared-both = cleared-both;
+    }
+
+-- With a transition of node 1 to itself for 2, a list that leaves machine 1 by 2 ends inside it, at state 10. The exit cost is the same.
+pub exit-with-loop : ExitCost (mastAfter (looping ∷ [])) 1 2 (some 4)
+    × (step (mastAfter (looping ∷ [])) 11 2 ≡ some (record { node = 10; cost = 6 }))
+unfolding computing
+exit-with-loop = (
+  tested-exit (mastAfter (looping ∷ [])) (after-sound (looping ∷ []) (omega arith)) loopRows refl 1 10 2 (some 4) refl (omega arith) refl,
+  refl,
+)

@@ -1,0 +1,65 @@
+-- A tree that is read out of words is sound exactly where its root fits and every machine and every node fits. Assumes nothing.
+use mathlib.Core.Path.{_≡_}
+use mathlib.Core.Logic.{_↔_}
+use mathlib.Core.Option.{Option, some}
+use Prim.Native.Nat.{ℕ, _<_}
+use Rattle.definitions.specs.Limits.{machines, nodes, commands, costs, absent, blank}
+use Rattle.definitions.specs.Tree.{Tree, Transition, Sound}
+use Rattle.definitions.specs.Book.{transitionWord}
+use Rattle.wellformed.specs.Fits.{RootFits, MachinesFit, NodesFit}
+
+-- what is said of number i, if anything, is said under the limit, and never by the word for absent
+abbrev pub Within : ℕ → ℕ → Option ℕ → Type 0
+Within limit i o = (n : ℕ) → o ≡ some n → (i < limit) × (n ≡ absent → ⊥)
+
+-- a tree that is read out of words speaks so of machines, nodes and commands, and its costs are in range
+pub record Read (t : Tree) : Type 0 where
+  pub owner : (n : ℕ) → Within nodes n (t .owner n)
+  pub below : (n : ℕ) → Within nodes n (t .below n)
+  pub start : (m : ℕ) → Within machines m (t .start m)
+  pub holder : (m : ℕ) → Within machines m (t .holder m)
+  pub transition : (n x : ℕ) (a : Transition) → t .transition n x ≡ some a
+      → (n < nodes) × (x < commands) × (a .cost < costs) × (transitionWord (some a) ≡ blank → ⊥)
+
+-- the root, every machine and every node fit
+abbrev pub AllFit : Tree → Type 0
+AllFit t = RootFits t × MachinesFit t × NodesFit t
+
+-- a sound tree fits
+fits : {t : Tree} → Sound t → AllFit t
+fits {t} s = (
+  record { used = s .root-used; free = s .root-free },
+  λ m h.
+      record {
+        start = λ f e. (s .start-owned m f e, s .climbs m f e);
+        holder = λ n e. (s .held-below m n e, s .holder-used m n e, s .held-used m n e);
+      },
+  λ n h.
+      record { owner = s .owner-used n; below = s .below-held n; transitions = λ x l. s .transition-owned n x },
+)
+
+-- a tree that is read out of words and fits is sound
+sound : {t : Tree} → Read t → AllFit t → Sound t
+sound {t} l (root, machine, node) =
+    record {
+      root-used = root .used;
+      root-free = root .free;
+      machine-range = λ m s e. l .start m s e .0;
+      node-range = λ n m e. l .owner n m e .0;
+      owner-used = λ n m e. node n (l .owner n m e .0) .owner m e;
+      start-owned = λ m s e. machine m (l .start m s e .0) .start s e .0;
+      below-held = λ n m e. node n (l .below n m e .0) .below m e;
+      held-below = λ m n e. machine m (l .holder m n e .0) .holder n e .0;
+      holder-used = λ m n e. machine m (l .holder m n e .0) .holder n e .1;
+      held-used = λ m n e. machine m (l .holder m n e .0) .holder n e .2;
+      transition-range = λ n x a e. let r = l .transition n x a e in (r .1, r .2);
+      transition-owned =
+          λ n x a e.
+          let r = l .transition n x a e in
+          node n (r .0) .transitions x (r .1) a e;
+      climbs = λ m s e. machine m (l .start m s e .0) .start s e .1;
+    }
+
+-- so the two are one
+pub sound-fits : {t : Tree} → Read t → Sound t ↔ AllFit t
+sound-fits l = (fits, sound l)

@@ -1,0 +1,5 @@
+pub mod Decide
+pub mod Fits
+pub mod Reading
+pub mod Climbing
+pub mod Deciding

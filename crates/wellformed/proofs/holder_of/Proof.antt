@@ -1,0 +1,21 @@
+-- `wellformed::holder_of` meets its contract: a book says nothing of a number past the limit. Assumes nothing.
+use denote.Ref.{now}
+use Rattle.definitions.specs.Book.{treeOf}
+use Rattle.wellformed.proofs.Reading.{treeOf-read, outside}
+use borrow.Author.Needs.{needs}
+use Rattle.wellformed.proofs.holder_of.Statement.{statement}
+use Rattle.wellformed.proofs.holder_of.Tie as tie
+
+holder-requires : tie.Need-holder-requires
+holder-requires c κs = search needs
+
+returns : tie.Need-returns
+returns c = search needs
+
+returns-2 : tie.Need-returns-2
+returns-2 c =
+    let a = c .before .before .args in
+    outside (treeOf (now (a .book)) .holder (a .m)) (treeOf-read (now (a .book)) .holder (a .m)) (c .if1 .left)
+
+pub holder-of-spec : {M : Type 1} → statement M
+holder-of-spec = tie.close (tie.spec holder-requires returns returns-2)
