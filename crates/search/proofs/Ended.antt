@@ -1,11 +1,11 @@
 -- Where no node that waits is reached, the words are what the search promises. Assumes nothing.
-use mathlib.Core.Path.{_≡_, refl, sym, _∙_, ap, subst}
+use mathlib.Core.Path.{_≡_, _∙_, ap, subst}
 use mathlib.Core.Logic.{⊎-elim}
-use mathlib.Core.Option.{Option, none, some}
+use mathlib.Core.Option.{Option, some}
 use mathlib.Core.List.{List}
 use Prim.Native.Nat.{ℕ, zero, suc, _+_, _*_, _-_, _≤_, _<_}
 use native.Mathlib.Omega.{arith}
-use Rattle.definitions.specs.Basics.{_>>=_, iterate}
+use Rattle.definitions.specs.Basics.{iterate}
 use Rattle.definitions.specs.Limits.{nodes, absent}
 use Rattle.definitions.specs.Step.{Arrival}
 use Rattle.definitions.proofs.Options.{equal-or-not}
@@ -28,20 +28,24 @@ module _ {k s : ℕ} {move : ℕ → ℕ → Option Arrival} {first : Labels} {r
   -- a node that is reached is settled
   settled : (v : ℕ) → v < k → (at dist v ≡ unreached → ⊥) → rank v < n
   settled v h there =
-      ⊎-elim (λ waits. absurd (⊎-elim (λ (e : v ≡ s). omega (arith, ap (at dist) e, inv .start-dist, over v h waits)) (λ e. go waits e (inv .others v h e)) (equal-or-not v s)))
-      (λ done. done)
-      (inv .ranks v h)
+      ⊎-elim (λ waits. absurd (⊎-elim (start waits) (λ e. go waits e (inv .others v h e)) (equal-or-not v s))) (λ done. done) (inv .ranks v h)
     where
+      start : rank v ≡ waiting → v ≡ s → ⊥
+      start waits e = omega (arith, ap (at dist) e, inv .start-dist, over v h waits)
+
       go : rank v ≡ waiting → (v ≡ s → ⊥) → Label k move (labels dist before by) rank n v → ⊥
       go waits e (by-move u x w b y in-u done less step d) = omega (arith, over v h waits, named-near v h e in-u done step d)
       go waits e (blank d b y) = there d
 
+  -- a node that is reached is no dearer than its rank allows
   near : (v : ℕ) → v < k → (at dist v ≡ unreached → ⊥) → at dist v ≤ (k - 1) * largestMove
   near v h there =
       let done = settled v h there in
       omega (arith, few, inv .cheap v h done)
 
-  is-named : (v : ℕ) → v < k → (v ≡ s → ⊥) → (at dist v ≡ unreached → ⊥) → Named k move (distanceOf k dist) (nameOf k before) (nameOf k by) v (at dist v)
+  -- a reached node but the source has its names
+  is-named : (v : ℕ) → v < k → (v ≡ s → ⊥) → (at dist v ≡ unreached → ⊥)
+      → Named k move (distanceOf k dist) (nameOf k before) (nameOf k by) v (at dist v)
   is-named v h other there = go (inv .others v h other)
     where
       go : Label k move (labels dist before by) rank n v → Named k move (distanceOf k dist) (nameOf k before) (nameOf k by) v (at dist v)
@@ -75,6 +79,7 @@ module _ {k s : ℕ} {move : ℕ → ℕ → Option Arrival} {first : Labels} {r
   Leads : ℕ → ℕ → Type 0
   Leads m v = (j : ℕ) × (j ≤ m) × (iterate (nameOf k before) j v ≡ some s)
 
+  -- one name more
   leads-on : (m v : ℕ) → v < k → (at dist v ≡ unreached → ⊥)
       → ((u : ℕ) → u < k → (at dist u ≡ unreached → ⊥) → rank u < rank v → (j : ℕ) × (j < m) × (iterate (nameOf k before) j u ≡ some s)) → Leads m v
   unfolding iterate Leads
@@ -94,6 +99,7 @@ module _ {k s : ℕ} {move : ℕ → ℕ → Option Arrival} {first : Labels} {r
   leads (suc m) v h there le =
       leads-on (suc m) v h there (λ u hu tu less. let (j, small-j, way) = leads m u hu tu (omega arith) in (j, omega arith, way))
 
+  -- so the lists hold what the search promises
   pub ended : Certificate k s move (distanceOf k dist) (nameOf k before) (nameOf k by)
   unfolding Leads
   ended =
@@ -120,7 +126,8 @@ module _ {k s : ℕ} {move : ℕ → ℕ → Option Arrival} {first : Labels} {r
             (j, omega (arith, few, settled v h there), way);
         unreached =
             λ v e.
-            (name-none k before v (λ h. unnamed v h (distance-none k dist v h e) .0), name-none k by v (λ h. unnamed v h (distance-none k dist v h e) .1));
+            let blanks : v < k → (at before v ≡ absent) × (at by v ≡ absent) = λ h. unnamed v h (distance-none k dist v h e) in
+            (name-none k before v (λ h. blanks h .0), name-none k by v (λ h. blanks h .1));
         bound =
             λ v c e.
             let (h, same, there) = distance-some k dist v e in

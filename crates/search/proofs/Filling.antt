@@ -1,21 +1,20 @@
 -- Blanking the words of the first nodes, one node at a time. Assumes nothing.
 use mathlib.Core.Path.{_≡_, refl, _∙_, ap}
 use mathlib.Core.Logic.{⊎-elim}
-use mathlib.Core.List.{List}
 use Prim.Native.Nat.{ℕ, _+_, _≤_, _<_}
 use native.Mathlib.Omega.{arith}
-use lib.ListN.{length, set}
 use Rattle.definitions.specs.Limits.{absent}
 use Rattle.definitions.proofs.Options.{equal-or-not}
 use Rattle.search.specs.Search.{unreached}
-use Rattle.search.specs.Parts.{Labels, labels, Alike, Filled}
-use Rattle.search.proofs.Stores.{Put, put-set}
+use Rattle.search.specs.Parts.{Labels, Filled}
+use Rattle.search.proofs.Stores.{Put}
 
 -- the first n places hold w, and the others what they held
 pub record Upto (w n : ℕ) (f g : ℕ → ℕ) : Type 0 where
   pub filled : (v : ℕ) → v < n → g v ≡ w
   pub kept : (v : ℕ) → n ≤ v → g v ≡ f v
 
+-- before the first place
 pub upto-none : (w : ℕ) (f : ℕ → ℕ) → Upto w 0 f f
 upto-none w f = record { filled = λ v h. absurd (omega arith); kept = λ v h. refl }
 

@@ -5,10 +5,11 @@ use mathlib.Core.List.{List}
 use Prim.Native.Nat.{ℕ}
 use Rattle.definitions.specs.Basics.{Least}
 use Rattle.definitions.specs.Step.{Arrival, runBy}
-use Rattle.definitions.proofs.Reaching.{Led, named-reaches, least-reaches}
+use Rattle.definitions.proofs.Reaching.{Led, least-reaches}
 use Rattle.search.specs.Search.{Certificate}
 
 module _ {k source : ℕ} {move : ℕ → ℕ → Option Arrival} {distance before by : ℕ → Option ℕ} (c : Certificate k source move distance before by) where
+  -- the names of the certificate, as names that lead
   led : (v d : ℕ) → Unit {0} → (v ≡ source → ⊥) → distance v ≡ some d → Led move (λ v. Unit {0}) distance before v d
   led v d any other has =
       let name = c .named v d other has in

@@ -2,10 +2,8 @@
 -- search, and that one turn keeps it. Assumes nothing.
 use mathlib.Core.Path.{_≡_, refl, sym, _∙_, ap, subst}
 use mathlib.Core.Logic.{_⊎_, inl, inr, ⊎-elim}
-use mathlib.Core.Bool.{Bool, true, false}
-use mathlib.Core.Option.{Option, none, some}
-use mathlib.Core.List.{List}
-use Prim.Native.Nat.{ℕ, suc, _+_, _*_, _-_, _≤_, _<_}
+use mathlib.Core.Option.{Option, some}
+use Prim.Native.Nat.{ℕ, _+_, _*_, _≤_, _<_}
 use native.Mathlib.Omega.{arith}
 use lib.Dec.{eqb}
 use borrow.Author.Tests.{eq-eqb, ne-eqb}
@@ -51,6 +49,7 @@ pub record Settling (k s : ℕ) (move : ℕ → ℕ → Option Arrival) (first s
 -- before the first turn: the words are blank and every node waits
 module _ {k s : ℕ} {st : Labels} {rank : ℕ → ℕ} (in-s : s < k) (fill : Blank k s st)
     (waits : (v : ℕ) → v < k → rank v ≡ waiting) where
+  -- no node is settled
   pub begins : (move : ℕ → ℕ → Option Arrival) → Settling k s move st st rank 0
   begins move =
       record {
@@ -140,6 +139,7 @@ module _ {k s : ℕ} {move : ℕ → ℕ → Option Arrival} {first old new : La
       go (stays same) = omega (arith, same .dist, pick .least in-u v h (waited v waits .1))
       go (better x w e d less before by) = omega arith
 
+  -- the parts of the invariant, after the turn
   turn-ranks : (v : ℕ) → v < k → (rank′ v ≡ waiting) ⊎ (rank′ v < n + 1)
   turn-ranks v h =
       ⊎-elim (λ (e : v ≡ u). inr (omega (arith, ap rank′ e, put .same)))
@@ -149,7 +149,9 @@ module _ {k s : ℕ} {move : ℕ → ℕ → Option Arrival} {first old new : La
   turn-cheap : (v : ℕ) → v < k → rank′ v < n + 1 → new .dist v ≤ rank′ v * largestMove
   turn-cheap v h done =
       let same = still v h done .dist in
-      ⊎-elim (λ (e : v ≡ u). omega (arith, ap (old .dist) e, ap rank′ e, put .same, hand-cheap moves inv in-u pick)) (λ d. omega (arith, d .1, inv .cheap v h (d .0))) (after v h done)
+      ⊎-elim (λ (e : v ≡ u). omega (arith, ap (old .dist) e, ap rank′ e, put .same, hand-cheap moves inv in-u pick))
+      (λ d. omega (arith, d .1, inv .cheap v h (d .0)))
+      (after v h done)
 
   turn-relaxed : (v x : ℕ) (b : Arrival) → rank′ v < n + 1 → move v x ≡ some b → new .dist (b .node) ≤ new .dist v + b .cost
   turn-relaxed v x b done step =
@@ -169,15 +171,17 @@ module _ {k s : ℕ} {move : ℕ → ℕ → Option Arrival} {first old new : La
       kept same (by-move p x w before by in-p done less step d) =
           let away : p ≡ u → ⊥ = λ e. omega (arith, ap rank e, pick .waits in-u, few) in
           let same-p = put .other p away in
-          let rank-v : rank p < rank′ v = ⊎-elim (λ (e : v ≡ u). omega (arith, ap rank′ e, put .same)) (λ e. omega (arith, put .other v e)) (equal-or-not v u) in
-          by-move p x w (same .before ∙ before) (same .by ∙ by) in-p (omega arith) (omega arith) step (omega (arith, same .dist, settled-same p in-p done .dist))
+          let rank-v : rank p < rank′ v =
+          ⊎-elim (λ (e : v ≡ u). omega (arith, ap rank′ e, put .same)) (λ e. omega (arith, put .other v e)) (equal-or-not v u) in
+          by-move p x w (same .before ∙ before) (same .by ∙ by) in-p (omega arith) (omega arith) step
+          (omega (arith, same .dist, settled-same p in-p done .dist))
       kept same (blank d before by) = blank (same .dist ∙ d) (same .before ∙ before) (same .by ∙ by)
 
       go : Change row u old new v → Label k move new rank′ (n + 1) v
       go (stays same) = kept same (inv .others v h other)
       go (better x w e d less before by) =
           let waits : rank′ v ≡ waiting =
-              ⊎-elim (λ waits. waits) (λ done. absurd (omega (arith, still v h done .dist, less))) (turn-ranks v h) in
+          ⊎-elim (λ waits. waits) (λ done. absurd (omega (arith, still v h done .dist, less))) (turn-ranks v h) in
           by-move u x w before by in-u (omega (arith, put .same)) (omega (arith, put .same, few)) (same-row x ∙ e) (omega (arith, hand-same .dist))
 
   turn-rest : (v : ℕ) → k ≤ v → Alike first new v
@@ -199,9 +203,9 @@ module _ {k s : ℕ} {move : ℕ → ℕ → Option Arrival} {first old new : La
   turn-count : n + 1 + countBelow k (λ v. eqb (rank′ v) waiting) ≡ k
   turn-count =
       let fewer =
-          count-less k (λ v. eqb (rank v) waiting) (λ v. eqb (rank′ v) waiting) u in-u (eq-eqb (rank u) waiting (pick .waits in-u))
-          (ne-eqb (rank′ u) waiting (λ e. omega (arith, put .same, few)))
-          (λ v e. ap (λ (z : ℕ). eqb z waiting) (sym (put .other v e))) in
+      count-less k (λ v. eqb (rank v) waiting) (λ v. eqb (rank′ v) waiting) u in-u (eq-eqb (rank u) waiting (pick .waits in-u))
+      (ne-eqb (rank′ u) waiting (λ e. omega (arith, put .same, few)))
+      (λ v e. ap (λ (z : ℕ). eqb z waiting) (sym (put .other v e))) in
       omega (arith, fewer, inv .count)
 
   pub turn : Settling k s move first new rank′ (n + 1)

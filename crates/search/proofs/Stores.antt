@@ -89,7 +89,8 @@ module _ {row : ℕ → Option Arrival} {u x : ℕ} {old : Labels} where
         (omega (arith, dist .same))
       where
         falls : (w : ℕ) → new .dist w ≤ mid .dist w
-        falls w = ⊎-elim (λ (e : w ≡ v). omega (arith, dist .same, ap (new .dist) e, ap (mid .dist) e)) (λ e. omega (arith, dist .other w e)) (equal-or-not w v)
+        falls w =
+            ⊎-elim (λ (e : w ≡ v). omega (arith, dist .same, ap (new .dist) e, ap (mid .dist) e)) (λ e. omega (arith, dist .other w e)) (equal-or-not w v)
 
     -- one move more, as the code does it
     pub relaxed-more : (dist before by dist′ before′ by′ : List ℕ) {d : ℕ} → (v < length dist) × (v < length before) × (v < length by)
@@ -102,7 +103,8 @@ module _ {row : ℕ → Option Arrival} {u x : ℕ} {old : Labels} where
         subst₃ (λ (p q s : List ℕ). Relaxed row u (x + 1) old (labels p q s)) (sym (stored .0)) (sym (stored .1)) (sym (stored .2))
         (go (ltb d (getD dist v 0)) refl)
       where
-        go : (t : Bool) → ltb d (getD dist v 0) ≡ t → Relaxed row u (x + 1) old (labels (storedIf t dist v d) (storedIf t before v u) (storedIf t by v x))
+        go : (t : Bool) → ltb d (getD dist v 0) ≡ t
+            → Relaxed row u (x + 1) old (labels (storedIf t dist v d) (storedIf t before v u) (storedIf t by v x))
         go true e =
             relaxed-put r total (ltb-true d (getD dist v 0) e) (put-set dist v d (room .0)) (put-set before v u (room .1)) (put-set by v x (room .2))
         go false e = relaxed-kept r (omega (arith, ltb-false d (getD dist v 0) e))

@@ -1,15 +1,13 @@
 -- From what the search asks of its tables and lists to what its parts ask, and one turn over lists of words. Assumes nothing.
-use mathlib.Core.Path.{_≡_, refl, sym, _∙_, ap}
-use mathlib.Core.Option.{Option, some}
+use mathlib.Core.Path.{_∙_}
 use mathlib.Core.List.{List}
-use Prim.Native.Nat.{ℕ, _+_, _*_, _≤_, _<_}
+use Prim.Native.Nat.{ℕ, _+_, _≤_, _<_}
 use native.Mathlib.Omega.{arith}
 use lib.ListN.{length, set}
-use Rattle.definitions.specs.Limits.{nodes, commands}
-use Rattle.definitions.specs.Step.{Arrival}
-use Rattle.search.specs.Search.{largestMove, rowMove, moveOf, Tables, Room, Searched}
+use Rattle.definitions.specs.Limits.{commands}
+use Rattle.search.specs.Search.{rowMove, moveOf, Tables, Room, Searched}
 use Rattle.search.specs.Parts.{at, Labels, labels, Filled, Picked, Relaxed, Row}
-use Rattle.search.proofs.Reading.{row-range, move-row, move-some}
+use Rattle.search.proofs.Reading.{row-words, move-row, move-some}
 use Rattle.search.proofs.Stores.{put-set}
 use Rattle.search.proofs.Settling.{Moves, Settling, hand-cheap, turn}
 use Rattle.search.proofs.Ended.{ended}
@@ -20,7 +18,7 @@ module _ {k s : ℕ} {target price : List ℕ} (tables : Tables k s target price
   tables-moves =
       record {
         from = λ u x b e. move-some target price u x k e .0;
-        range = λ u x b e. row-range target price u x (move-some target price u x k e .1);
+        range = λ u x b e. row-words target price u x (move-some target price u x k e .1) .0;
         inside = tables .inside;
         cheap = tables .cheap;
       }

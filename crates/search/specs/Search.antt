@@ -12,7 +12,7 @@ use Rattle.definitions.specs.Limits.{nodes, commands}
 use Rattle.definitions.specs.Step.{Arrival}
 use Rattle.definitions.specs.Book.{number, under}
 
--- the largest cost of a move
+-- the largest cost of a move: 256 × 65,535
 abbrev pub largestMove : ℕ
 largestMove = 16776960
 

@@ -1,4 +1,5 @@
-// Least costs from one source over at most 256 nodes with 16 moves each, given as two tables.
+// Least costs from one source over at most 256 nodes with 16 moves each, given as two tables (Dijkstra's search). A node waits until it is
+// settled, the nearest first; it is settled before its moves are relaxed.
 ghost use mathlib.Core.Path.{_≡_};
 ghost use Prim.Native.Nat.{_+_, _*_, _≤_, _<_};
 ghost use lib.Dec.{ltb};
@@ -11,6 +12,9 @@ ghost use Rattle.search.specs.Parts.{at, labels, storedIf, Blank, Filled
 pub const ABSENT: u32 = 65535;
 
 pub const UNREACHED: u64 = 18446744073709551615;
+
+// The largest cost of a move.
+pub const LARGEST: u64 = 16776960;
 
 // The rank of a node that is not settled.
 const WAITING: u32 = 65535;
@@ -26,7 +30,8 @@ fn word(table: &[u32], i: usize) -> u32
 // Blanks the first k nodes; the source has distance 0.
 fn fill(k: usize, source: usize, dist: &mut [u64], before: &mut [u32], by: &mut [u32])
     requires { ⌜ (source < k) × Room k (now dist) (now before) (now by) ⌝ }
-    ensures { λ _. ⌜ Filled k source (labels (now (dist .entry)) (now (before .entry)) (now (by .entry))) (labels (now (dist .exit)) (now (before .exit)) (now (by .exit))) ⌝ }
+    ensures { λ _. ⌜ Filled k source (labels (now (dist .entry)) (now (before .entry)) (now (by .entry)))
+        (labels (now (dist .exit)) (now (before .exit)) (now (by .exit))) ⌝ }
 {
     let mut v = 0usize;
     while v < k {
@@ -74,9 +79,18 @@ fn relax(u: u32, x: u32, v: usize, d: u64, dist: &mut [u64], before: &mut [u32],
 }
 
 // Relaxes the moves of node u.
-fn relax_all(u: usize, target: &[u32], price: &[u64], dist: &mut [u64], before: &mut [u32], by: &mut [u32])
+fn relax_all(
+    u: usize,
+    target: &[u32],
+    price: &[u64],
+    dist: &mut [u64],
+    before: &mut [u32],
+    by: &mut [u32],
+)
     requires { ⌜ Row u (now target) (now price) (now dist) (now before) (now by) ⌝ }
-    ensures { λ _. ⌜ Relaxed (rowMove (now (target .entry)) (now (price .entry)) u) u commands (labels (now (dist .entry)) (now (before .entry)) (now (by .entry))) (labels (now (dist .exit)) (now (before .exit)) (now (by .exit))) ⌝ }
+    ensures { λ _. ⌜ Relaxed (rowMove (now (target .entry)) (now (price .entry)) u) u commands
+        (labels (now (dist .entry)) (now (before .entry)) (now (by .entry)))
+        (labels (now (dist .exit)) (now (before .exit)) (now (by .exit))) ⌝ }
 {
     let here = dist[u];
     let mut x = 0usize;
@@ -84,16 +98,37 @@ fn relax_all(u: usize, target: &[u32], price: &[u64], dist: &mut [u64], before: 
         let i = 16 * u + x;
         let v = word(target, i);
         if v != ABSENT {
-            relax(u as u32, x as u32, v as usize, here + price[i], dist, before, by);
+            relax(
+                u as u32,
+                x as u32,
+                v as usize,
+                here + price[i],
+                dist,
+                before,
+                by,
+            );
         }
         x += 1;
     }
 }
 
 // Finds the least costs in blank lists, with a rank for each node: how many were settled before it.
-fn settle(k: usize, source: usize, target: &[u32], price: &[u64], dist: &mut [u64], before: &mut [u32], by: &mut [u32], rank: &mut [u32])
-    requires { ⌜ Tables k source (now target) (now price) × Room k (now dist) (now before) (now by) × Blank k source (labels (now dist) (now before) (now by)) × Unsettled k (now rank) ⌝ }
-    ensures { λ _. ⌜ Searched k source (now (target .entry)) (now (price .entry)) (now (dist .entry)) (now (before .entry)) (now (by .entry)) (now (dist .exit)) (now (before .exit)) (now (by .exit)) ⌝ }
+fn settle(
+    k: usize,
+    source: usize,
+    target: &[u32],
+    price: &[u64],
+    dist: &mut [u64],
+    before: &mut [u32],
+    by: &mut [u32],
+    rank: &mut [u32],
+)
+    requires { ⌜ Tables k source (now target) (now price)
+        × Room k (now dist) (now before) (now by)
+        × Blank k source (labels (now dist) (now before) (now by))
+        × Unsettled k (now rank) ⌝ }
+    ensures { λ _. ⌜ Searched k source (now (target .entry)) (now (price .entry)) (now (dist .entry)) (now (before .entry)) (now (by .entry))
+        (now (dist .exit)) (now (before .exit)) (now (by .exit)) ⌝ }
 {
     let mut n = 0u32;
     let mut u = source;
@@ -105,12 +140,21 @@ fn settle(k: usize, source: usize, target: &[u32], price: &[u64], dist: &mut [u6
     }
 }
 
-// Finds the least costs from the source. Row u of the tables is 16 entries from 16 * u on: the targets of u's moves, ABSENT where there is
-// none, and their prices. For each of the k nodes it leaves the distance and the move by which it is reached, UNREACHED and ABSENT where it
-// is not; the entries from k on are left as they were.
-pub fn search(k: usize, source: usize, target: &[u32], price: &[u64], dist: &mut [u64], before: &mut [u32], by: &mut [u32])
+// Finds the least costs from the source over k nodes, at most 256. Row u of the tables, the 16 entries from 16 * u on, has the moves of node u:
+// where each leads, ABSENT where there is none, and what it costs, at most LARGEST. For each node it leaves the distance and the names of the
+// move by which it is reached, UNREACHED and ABSENT where it is not; entries from k on are untouched.
+pub fn search(
+    k: usize,
+    source: usize,
+    target: &[u32],
+    price: &[u64],
+    dist: &mut [u64],
+    before: &mut [u32],
+    by: &mut [u32],
+)
     requires { ⌜ Tables k source (now target) (now price) × Room k (now dist) (now before) (now by) ⌝ }
-    ensures { λ _. ⌜ Searched k source (now (target .entry)) (now (price .entry)) (now (dist .entry)) (now (before .entry)) (now (by .entry)) (now (dist .exit)) (now (before .exit)) (now (by .exit)) ⌝ }
+    ensures { λ _. ⌜ Searched k source (now (target .entry)) (now (price .entry)) (now (dist .entry)) (now (before .entry)) (now (by .entry))
+        (now (dist .exit)) (now (before .exit)) (now (by .exit)) ⌝ }
 {
     fill(k, source, dist, before, by);
     let mut rank = [WAITING; 256];

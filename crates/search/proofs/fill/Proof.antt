@@ -1,3 +1,4 @@
+-- `search::fill` meets its contract: below the node in hand the words are blank, and from it on they are as they were. Assumes nothing.
 use mathlib.Core.Path.{_≡_, refl, _∙_, subst}
 use Prim.Native.Nat.{ℕ, _≤_, _-_}
 use native.Mathlib.Omega.{arith}
@@ -10,8 +11,6 @@ use Rattle.search.proofs.Stores.{put-set}
 use Rattle.search.proofs.Filling.{Upto, upto-none, upto-more, filled}
 use Rattle.search.proofs.fill.Statement.{statement}
 use Rattle.search.proofs.fill.Tie as tie
-use Rattle.search.proofs.fill.Reads as reads
-use Rattle.search.proofs.fill.Lts as lts
 
 abbrev Inv-loop : tie.InvT-loop
 Inv-loop k source dist₀ before₀ by₀ v₀ dist before by v =
@@ -24,75 +23,63 @@ Inv-loop k source dist₀ before₀ by₀ v₀ dist before by v =
 abbrev μ-loop : tie.MeasureT-loop
 μ-loop k source dist₀ before₀ by₀ v₀ dist before by v = k - v
 
--- src/lib.rt:32:5
 loop-holds : tie.Need-loop-holds Inv-loop μ-loop
 loop-holds c = (omega arith, (refl, refl, refl), upto-none _ _, upto-none _ _, upto-none _ _)
 
--- src/lib.rt:33:9
 mul-dist : tie.Need-mul-dist Inv-loop μ-loop
 mul-dist c = omega arith
 
--- src/lib.rt:33:9
 slice-write-dist : tie.Need-slice-write-dist Inv-loop μ-loop
 slice-write-dist c = omega arith
 
--- src/lib.rt:34:9
 mul-before : tie.Need-mul-before Inv-loop μ-loop
 mul-before c = omega arith
 
--- src/lib.rt:34:9
 slice-write-before : tie.Need-slice-write-before Inv-loop μ-loop
 slice-write-before c = omega arith
 
--- src/lib.rt:35:9
 mul-by : tie.Need-mul-by Inv-loop μ-loop
 mul-by c = omega arith
 
--- src/lib.rt:35:9
 slice-write-by : tie.Need-slice-write-by Inv-loop μ-loop
 slice-write-by c = omega arith
 
--- src/lib.rt:36:9
 add-v : tie.Need-add-v Inv-loop μ-loop
 add-v c = omega arith
 
--- src/lib.rt:32:5
 loop-less : tie.Need-loop-less Inv-loop μ-loop
 loop-less c = omega arith
 
--- src/lib.rt:32:5
 loop-again : tie.Need-loop-again Inv-loop μ-loop
 loop-again c =
     let l = c .before in
     let i = l .loop .inv in (
       omega arith,
-      (length-set (l .loop .dist) (l .loop .v) _ ∙ i .1 .0, length-set (l .loop .before) (l .loop .v) _ ∙ i .1 .1, length-set (l .loop .by) (l .loop .v) _ ∙ i .1 .2),
+      (
+        length-set (l .loop .dist) (l .loop .v) _ ∙ i .1 .0,
+        length-set (l .loop .before) (l .loop .v) _ ∙ i .1 .1,
+        length-set (l .loop .by) (l .loop .v) _ ∙ i .1 .2,
+      ),
       upto-more (i .2) (put-set (l .loop .dist) (l .loop .v) _ (omega arith)),
       upto-more (i .3) (put-set (l .loop .before) (l .loop .v) _ (omega arith)),
       upto-more (i .4) (put-set (l .loop .by) (l .loop .v) _ (omega arith)),
     )
 
--- src/lib.rt:38:5
 mul-dist-2 : tie.Need-mul-dist-2 Inv-loop μ-loop
 mul-dist-2 c = omega arith
 
--- src/lib.rt:38:5
 slice-write-dist-2 : tie.Need-slice-write-dist-2 Inv-loop μ-loop
 slice-write-dist-2 c = omega arith
 
--- src/lib.rt:27:1
 same-length : tie.Need-same-length Inv-loop μ-loop
 same-length c = simp length-set (c .before .loop .inv .1 .0)
 
--- src/lib.rt:27:1
 same-length-2 : tie.Need-same-length-2 Inv-loop μ-loop
 same-length-2 c = c .before .loop .inv .1 .1
 
--- src/lib.rt:27:1
 same-length-3 : tie.Need-same-length-3 Inv-loop μ-loop
 same-length-3 c = c .before .loop .inv .1 .2
 
--- src/lib.rt:27:1
 returns : tie.Need-returns Inv-loop μ-loop
 returns c =
     let l = c .before in

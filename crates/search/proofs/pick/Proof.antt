@@ -1,3 +1,4 @@
+-- `search::pick` meets its contract: best is the nearest of the nodes passed that wait. Assumes nothing.
 use mathlib.Core.Path.{_≡_, sym, subst₂}
 use Prim.Native.Nat.{ℕ, _+_, _≤_, _<_, _-_}
 use native.Mathlib.Omega.{arith}
@@ -7,8 +8,6 @@ use Rattle.search.specs.Parts.{at}
 use Rattle.search.proofs.Picking.{Best, best-none, best-kept, best-better, best-picked}
 use Rattle.search.proofs.pick.Statement.{statement}
 use Rattle.search.proofs.pick.Tie as tie
-use Rattle.search.proofs.pick.Reads as reads
-use Rattle.search.proofs.pick.Lts as lts
 
 abbrev Inv-loop : tie.InvT-loop
 Inv-loop k dist rank best₀ least₀ v₀ best least v = (v ≤ k) × Best k (at dist) (at rank) v best least
@@ -16,44 +15,37 @@ Inv-loop k dist rank best₀ least₀ v₀ best least v = (v ≤ k) × Best k (a
 abbrev μ-loop : tie.MeasureT-loop
 μ-loop k dist rank best₀ least₀ v₀ best least v = k - v
 
--- src/lib.rt:49:5
 loop-holds : tie.Need-loop-holds Inv-loop μ-loop
 loop-holds c = (omega arith, best-none _ _ _)
 
--- src/lib.rt:50:12
 mul-if1 : tie.Need-mul-if1 Inv-loop μ-loop
 mul-if1 c = omega arith
 
--- src/lib.rt:50:12
 shared-slice-read-if1 : tie.Need-shared-slice-read-if1 Inv-loop μ-loop
 shared-slice-read-if1 c = omega arith
 
--- src/lib.rt:51:21
 mul-d : tie.Need-mul-d Inv-loop μ-loop
 mul-d c = omega arith
 
--- src/lib.rt:51:21
 shared-slice-read-d : tie.Need-shared-slice-read-d Inv-loop μ-loop
 shared-slice-read-d c = omega arith
 
--- src/lib.rt:57:9
 add-v : tie.Need-add-v Inv-loop μ-loop
 add-v c = omega arith
 
--- src/lib.rt:49:5
 loop-less : tie.Need-loop-less Inv-loop μ-loop
 loop-less c = omega arith
 
--- src/lib.rt:49:5
 loop-again : tie.Need-loop-again Inv-loop μ-loop
 loop-again c =
     let l = c .before .before .before in
     let a = l .before .args in
     let inv = l .loop .inv .1 in
     let inside : l .loop .v < a .k = omega arith in
-    let to : (best least : ℕ) → c .if1 .best ≡ best → c .if1 .least ≡ least → Best (a .k) (at (now (a .dist))) (at (now (a .rank))) (l .loop .v + 1) best least
-        → Best (a .k) (at (now (a .dist))) (at (now (a .rank))) (l .loop .v + 1) (c .if1 .best) (c .if1 .least) =
-        λ best least p q b. subst₂ (Best (a .k) (at (now (a .dist))) (at (now (a .rank))) (l .loop .v + 1)) (sym p) (sym q) b in (
+    let to : (best least : ℕ) → c .if1 .best ≡ best → c .if1 .least ≡ least
+    → Best (a .k) (at (now (a .dist))) (at (now (a .rank))) (l .loop .v + 1) best least
+    → Best (a .k) (at (now (a .dist))) (at (now (a .rank))) (l .loop .v + 1) (c .if1 .best) (c .if1 .least) =
+    λ best least p q b. subst₂ (Best (a .k) (at (now (a .dist))) (at (now (a .rank))) (l .loop .v + 1)) (sym p) (sym q) b in (
       omega arith,
       ⊎-elim (λ w. to _ _ (w .3) (w .4) (best-better inv inside (w .0 .taken) (w .2 .taken)))
           (⊎-elim (λ w. to _ _ (w .3) (w .4) (best-kept inv (λ waits. w .2 .left)))
@@ -61,7 +53,6 @@ loop-again c =
           (c .if1 .came),
     )
 
--- src/lib.rt:42:1
 returns : tie.Need-returns Inv-loop μ-loop
 returns c = best-picked (omega arith) (c .before .loop .inv .1)
 

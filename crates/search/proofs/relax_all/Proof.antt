@@ -1,3 +1,4 @@
+-- `search::relax_all` meets its contract: the moves of the commands passed are relaxed. Assumes nothing.
 use mathlib.Core.Path.{_≡_, refl, sym, _∙_, ap, subst, subst₃}
 use mathlib.Core.Logic.{⊎-elim}
 use mathlib.Core.Option.{some}
@@ -14,10 +15,6 @@ use Rattle.search.proofs.Reading.{row-is, row-none}
 use Rattle.search.proofs.Stores.{relaxed-none, relaxed-past, relaxed-more}
 use Rattle.search.proofs.relax_all.Statement.{statement}
 use Rattle.search.proofs.relax_all.Tie as tie
-use Rattle.search.proofs.relax_all.Reads as reads
-use Rattle.search.proofs.relax_all.Lts as lts
-use Rattle.search.proofs.relax.Reads as relax-reads
-use Rattle.search.proofs.word.Reads as word-reads
 
 abbrev Inv-loop : tie.InvT-loop
 Inv-loop u target price dist₀ before₀ by₀ here x₀ dist before by x =
@@ -28,39 +25,30 @@ Inv-loop u target price dist₀ before₀ by₀ here x₀ dist before by x =
 abbrev μ-loop : tie.MeasureT-loop
 μ-loop u target price dist₀ before₀ by₀ here x₀ dist before by x = commands - x
 
--- src/lib.rt:81:16
 mul-here : tie.Need-mul-here Inv-loop μ-loop
 mul-here c = omega arith
 
--- src/lib.rt:81:16
 slice-read-here : tie.Need-slice-read-here Inv-loop μ-loop
 slice-read-here c = omega arith
 
--- src/lib.rt:83:5
 loop-holds : tie.Need-loop-holds Inv-loop μ-loop
 loop-holds c = (omega arith, (refl, refl, refl), relaxed-none _ _ _)
 
--- src/lib.rt:84:17
 mul-i : tie.Need-mul-i Inv-loop μ-loop
 mul-i c = omega (arith, c .before .before .before .before .before .before .before .before .pre)
 
--- src/lib.rt:84:17
 add-i : tie.Need-add-i Inv-loop μ-loop
 add-i c = omega (arith, c .before .before .before .before .before .before .before .before .pre)
 
--- src/lib.rt:85:13
 word-requires : tie.Need-word-requires Inv-loop μ-loop
 word-requires c κs = omega (arith, c .before .before .before .before .before .before .before .before .pre)
 
--- src/lib.rt:87:19
 cast-relax : tie.Need-cast-relax Inv-loop μ-loop
 cast-relax c = omega (arith, c .before .before .before .before .before .before .before .before .before .before .pre)
 
--- src/lib.rt:87:29
 cast-relax-2 : tie.Need-cast-relax-2 Inv-loop μ-loop
 cast-relax-2 c = omega (arith, c .before .before .before .before .before .before .before .before .before .before .pre)
 
--- src/lib.rt:87:39
 cast-relax-3 : tie.Need-cast-relax-3 Inv-loop μ-loop
 cast-relax-3 c = search needs
 
@@ -74,24 +62,21 @@ the-move c =
     let l = c .before .before .before in
     let a = l .before .before .before .before .before .before .before .args in
     let same = c .before .word .ensures in
-    row-is (now (a .target)) (now (a .price)) (a .u) (l .loop .x) (c .before .before .loop-test .taken) (λ e. c .if1 .taken (same ∙ e))
+    row-is (now (a .target)) (now (a .price)) (a .u) (l .loop .x)
+    (omega (arith, c .before .before .loop-test .taken)) (λ e. c .if1 .taken (same ∙ e))
     ∙ ap (λ (v : ℕ). some (record { node = v; cost = getD (now (a .price)) (commands * a .u + l .loop .x) 0 })) (sym same)
 
--- src/lib.rt:87:58
 mul-relax : tie.Need-mul-relax Inv-loop μ-loop
 mul-relax c = omega (arith, c .before .before .before .before .before .before .before .before .before .before .pre)
 
--- src/lib.rt:87:58
 shared-slice-read-relax : tie.Need-shared-slice-read-relax Inv-loop μ-loop
 shared-slice-read-relax c = omega (arith, c .before .before .before .before .before .before .before .before .before .before .before .pre)
 
--- src/lib.rt:87:51
 add-relax : tie.Need-add-relax Inv-loop μ-loop
 add-relax c =
     let row = c .before .before .before .before .before .before .before .before .before .before .before .pre in
     omega (arith, row .near, row .cheap _ _ (the-move (c .before)))
 
--- src/lib.rt:87:13
 relax-requires : tie.Need-relax-requires Inv-loop μ-loop
 relax-requires c κs =
     let t = c .before .before .before .before in
@@ -101,15 +86,12 @@ relax-requires c κs =
     let same = l .loop .inv .1 in
     (omega (arith, inside, same), omega (arith, inside, same), omega (arith, inside, same))
 
--- src/lib.rt:89:9
 add-x : tie.Need-add-x Inv-loop μ-loop
 add-x c = omega (arith, c .before .before .loop-test .taken)
 
--- src/lib.rt:83:5
 loop-less : tie.Need-loop-less Inv-loop μ-loop
 loop-less c = omega (arith, c .before .before .loop-test .taken)
 
--- src/lib.rt:83:5
 loop-again : tie.Need-loop-again Inv-loop μ-loop
 loop-again c =
     let l = c .before .before .before in
@@ -142,19 +124,15 @@ loop-again c =
     ))
     (c .if1 .came)
 
--- src/lib.rt:77:1
 same-length : tie.Need-same-length Inv-loop μ-loop
 same-length c = c .before .loop .inv .1 .0
 
--- src/lib.rt:77:1
 same-length-2 : tie.Need-same-length-2 Inv-loop μ-loop
 same-length-2 c = c .before .loop .inv .1 .1
 
--- src/lib.rt:77:1
 same-length-3 : tie.Need-same-length-3 Inv-loop μ-loop
 same-length-3 c = c .before .loop .inv .1 .2
 
--- src/lib.rt:77:1
 returns : tie.Need-returns Inv-loop μ-loop
 returns c =
     let l = c .before in

@@ -1,3 +1,4 @@
+-- `search::search` meets its contract: the lists are filled, every rank says that its node waits, and the rest is `settle`'s. Assumes nothing.
 use native.Mathlib.Omega.{arith}
 use lib.ListN.{getD-replicate}
 use denote.Ref.{now}
@@ -6,20 +7,13 @@ use Rattle.search.proofs.Turning.{filled-searched}
 use borrow.Author.Needs.{needs}
 use Rattle.search.proofs.search.Statement.{statement}
 use Rattle.search.proofs.search.Tie as tie
-use Rattle.search.proofs.search.Reads as reads
-use Rattle.search.proofs.search.Lts as lts
-use Rattle.search.proofs.fill.Reads as fill-reads
-use Rattle.search.proofs.settle.Reads as settle-reads
 
--- src/lib.rt:115:5
 fill-requires : tie.Need-fill-requires
 fill-requires c κs = search needs
 
--- src/lib.rt:117:56
 slice-aggregate-settle : tie.Need-slice-aggregate-settle
 slice-aggregate-settle c = search needs
 
--- src/lib.rt:117:5
 settle-requires : tie.Need-settle-requires
 settle-requires c κs =
     let f = c .before .before .before .before .before .before .before .before .before .before in
@@ -31,19 +25,15 @@ settle-requires c κs =
       record { room = p .0 .small; waits = λ v h. getD-replicate 256 v waiting 0 (omega (arith, p .0 .small)) },
     )
 
--- src/lib.rt:111:1
 same-length : tie.Need-same-length
 same-length c = search needs
 
--- src/lib.rt:111:1
 same-length-2 : tie.Need-same-length-2
 same-length-2 c = search needs
 
--- src/lib.rt:111:1
 same-length-3 : tie.Need-same-length-3
 same-length-3 c = search needs
 
--- src/lib.rt:111:1
 returns : tie.Need-returns
 returns c =
     let s = c .before .before .before .before .before .before .before in

@@ -1,21 +1,15 @@
-use mathlib.Core.Path.{_≡_, refl, sym, _∙_, ap, subst, subst₃}
-use mathlib.Core.List.{List}
-use Prim.Native.Nat.{ℕ, _+_, _*_, _≤_, _-_}
+-- `search::settle` meets its contract: n nodes are settled, and u is the nearest of the others; the measure is how many wait. Assumes nothing.
+use mathlib.Core.Path.{_≡_, refl, _∙_}
+use Prim.Native.Nat.{_+_, _-_}
 use native.Mathlib.Omega.{arith}
 use lib.ListN.{length, set, length-set}
-use borrow.Author.Needs.{needs}
 use denote.Ref.{now}
-use Rattle.definitions.specs.Limits.{nodes, commands}
-use Rattle.search.specs.Search.{moveOf, rowMove}
-use Rattle.search.specs.Parts.{at, labels, Picked, Relaxed}
+use Rattle.search.specs.Search.{moveOf}
+use Rattle.search.specs.Parts.{at, labels, Picked}
 use Rattle.search.proofs.Settling.{Settling, begins, begins-picked}
 use Rattle.search.proofs.Turning.{tables-row, turned, searched}
 use Rattle.search.proofs.settle.Statement.{statement}
 use Rattle.search.proofs.settle.Tie as tie
-use Rattle.search.proofs.settle.Reads as reads
-use Rattle.search.proofs.settle.Lts as lts
-use Rattle.search.proofs.pick.Reads as pick-reads
-use Rattle.search.proofs.relax_all.Reads as relax-all-reads
 
 abbrev Inv-loop : tie.InvT-loop
 Inv-loop k source target price dist₀ before₀ by₀ rank₀ n₀ u₀ dist before by rank n u =
@@ -26,22 +20,18 @@ Inv-loop k source target price dist₀ before₀ by₀ rank₀ n₀ u₀ dist be
 abbrev μ-loop : tie.MeasureT-loop
 μ-loop k source target price dist₀ before₀ by₀ rank₀ n₀ u₀ dist before by rank n u = k - n
 
--- src/lib.rt:100:5
 loop-holds : tie.Need-loop-holds Inv-loop μ-loop
 loop-holds c =
     let e = c .before .before .before .before .before .before in
     let p = e .pre in
     ((refl, refl, refl, refl), begins (p .0 .has-source) (p .2) (p .3 .waits) _, begins-picked (p .0 .has-source) (p .2) (p .3 .waits))
 
--- src/lib.rt:101:9
 mul-rank : tie.Need-mul-rank Inv-loop μ-loop
 mul-rank c = omega (arith, c .before .before .before .before .before .before .before .before .pre .0 .small)
 
--- src/lib.rt:101:9
 slice-write-rank : tie.Need-slice-write-rank Inv-loop μ-loop
 slice-write-rank c = omega (arith, c .before .loop .inv .0, c .before .before .before .before .before .before .before .before .pre .3 .room)
 
--- src/lib.rt:102:9
 relax-all-requires : tie.Need-relax-all-requires Inv-loop μ-loop
 relax-all-requires c κs =
     let l = c .before .before .before .before in
@@ -50,7 +40,6 @@ relax-all-requires c κs =
     tables-row (p .0) (l .loop .dist) (l .loop .before) (l .loop .by) (l .loop .rank) (i .1) (c .before .before .before .loop-test .taken) (i .2)
     (record { dist-room = omega (arith, i .0, p .1); before-room = omega (arith, i .0, p .1); by-room = omega (arith, i .0, p .1) })
 
--- src/lib.rt:103:9
 -- one node more is settled
 settled-more : (c : tie.After-relax-all Inv-loop μ-loop)
     → let l = c .before .before .before .before .before in
@@ -62,13 +51,16 @@ settled-more c =
     let l = c .before .before .before .before .before in
     let p = l .before .before .before .before .before .before .before .pre in
     let i = l .loop .inv in
-    turned (p .0) (l .loop .dist) (l .loop .before) (l .loop .by) (l .loop .rank) (i .1) (c .before .before .before .before .loop-test .taken) (i .2) (omega (arith, i .0, p .3 .room))
+    turned (p .0) (l .loop .dist) (l .loop .before) (l .loop .by) (l .loop .rank) (i .1) (c .before .before .before .before .loop-test .taken) (i .2)
+    (omega (arith, i .0, p .3 .room))
     (c .relax-all .ensures)
 
 add-n : tie.Need-add-n Inv-loop μ-loop
-add-n c = omega (arith, settled-more (c .before .before .before .before .before .before) .count, c .before .before .before .before .before .before .before .before .before .before .before .before .before .before .before .before .before .before .pre .0 .small)
+add-n c =
+    let r = c .before .before .before .before .before .before in
+    let l = r .before .before .before .before .before in
+    omega (arith, settled-more r .count, l .before .before .before .before .before .before .before .pre .0 .small)
 
--- src/lib.rt:104:9
 pick-requires : tie.Need-pick-requires Inv-loop μ-loop
 pick-requires c κs =
     let r = c .before .before .before .before .before .before .before .before in
@@ -76,11 +68,9 @@ pick-requires c κs =
     let p = l .before .before .before .before .before .before .before .pre in
     (omega (arith, r .relax-all .kept .1 .1 .1 .0, l .loop .inv .0, p .1), simp length-set (omega (arith, l .loop .inv .0, p .3 .room)))
 
--- src/lib.rt:100:5
 loop-less : tie.Need-loop-less Inv-loop μ-loop
 loop-less c = omega (arith, settled-more (c .before .before .before .before .before .before .before .before .before) .count)
 
--- src/lib.rt:100:5
 loop-again : tie.Need-loop-again Inv-loop μ-loop
 loop-again c =
     let r = c .before .before .before .before .before .before .before .before .before in
@@ -92,29 +82,25 @@ loop-again c =
       c .pick .ensures,
     )
 
--- src/lib.rt:94:1
 same-length : tie.Need-same-length Inv-loop μ-loop
 same-length c = c .before .loop .inv .0 .0
 
--- src/lib.rt:94:1
 same-length-2 : tie.Need-same-length-2 Inv-loop μ-loop
 same-length-2 c = c .before .loop .inv .0 .1
 
--- src/lib.rt:94:1
 same-length-3 : tie.Need-same-length-3 Inv-loop μ-loop
 same-length-3 c = c .before .loop .inv .0 .2
 
--- src/lib.rt:94:1
 same-length-4 : tie.Need-same-length-4 Inv-loop μ-loop
 same-length-4 c = c .before .loop .inv .0 .3
 
--- src/lib.rt:94:1
 returns : tie.Need-returns Inv-loop μ-loop
 returns c =
     let l = c .before in
     let e = l .before .before .before .before .before .before .before in
     let a = e .args in
-    searched (e .pre .0) (now (a .dist)) (now (a .before)) (now (a .by)) (l .loop .dist) (l .loop .before) (l .loop .by) (l .loop .inv .1) (l .loop .inv .2) (c .loop-test .left)
+    searched (e .pre .0) (now (a .dist)) (now (a .before)) (now (a .by)) (l .loop .dist) (l .loop .before) (l .loop .by) (l .loop .inv .1) (l .loop .inv .2)
+    (c .loop-test .left)
 
 pub settle-spec : {M : Type 1} → statement M
 settle-spec =
