@@ -3,6 +3,7 @@ pub mod Lists
 pub mod Words
 pub mod Path
 pub mod Runs
+pub mod Reaching
 pub mod Inside
 pub mod Exits
 pub mod Local

@@ -1,10 +1,10 @@
 -- A sheet's rows are true exactly where they are so machine by machine: the conditions that can be tested, and document 01's, which
 -- speak of all lists. Assumes nothing.
-use mathlib.Core.Path.{_≡_, refl, sym, _∙_, ap, subst}
+use mathlib.Core.Path.{_≡_, refl, sym, _∙_, subst}
 use mathlib.Core.Logic.{⊎-elim}
 use mathlib.Core.Bool.{Bool, true, false}
 use mathlib.Core.Option.{Option, none, some}
-use mathlib.Core.List.{List, [], _∷_, _++_}
+use mathlib.Core.List.{[], _∷_, _++_}
 use Prim.Native.Nat.{ℕ, _+_, _≤_, _<_}
 use native.Mathlib.Omega.{arith}
 use lib.Dec.{eqb}
@@ -15,15 +15,15 @@ use Rattle.definitions.specs.Tree.{Tree, Transition, Sound, parent}
 use Rattle.definitions.specs.Step.{counting, found, passed, climb, Arrival}
 use Rattle.definitions.specs.Costs.{ExitCost}
 use Rattle.definitions.specs.Sheet.{Rows}
-use Rattle.definitions.specs.Truth.{nodeExit, move, walk, LeastWalk, TrueMachine, TrueRows}
+use Rattle.definitions.specs.Truth.{nodeExit, move, LeastWalk, TrueMachine, TrueRows}
 use Rattle.definitions.proofs.Options.{none-some, some-same, true-false, decided}
 use Rattle.definitions.proofs.Path.{parent-below, enters, enters-state, Inside, own, counting-owned, climb-own, climb-top, passed-found}
-use Rattle.definitions.proofs.Runs.{run-nil, run-cons, run-join, Bounded, bounded-run}
+use Rattle.definitions.proofs.Reaching.{run-on, Reaches, Led, named-reaches, least-reaches}
 use Rattle.definitions.proofs.Inside.{inside-apart}
 use Rattle.definitions.proofs.Local.{Relaxed, Attained, LocalRows, exit-plain, move-by, move-parts}
 use Rattle.definitions.proofs.Potential.{Shut, Lands, here, Frame, Potential, base, Comes, comes, potential-enters, raised-run}
 use Rattle.definitions.proofs.Exits.{exit-parts, start-enters}
-use Rattle.definitions.proofs.Realize.{along-names, Had, had, had-at}
+use Rattle.definitions.proofs.Realize.{Had, had, had-at}
 
 -- below a filled machine every machine is filled
 pub filled-below : (t : Tree) (r : Rows) → ((m p : ℕ) → r .stale m ≡ true → parent t m ≡ some p → r .stale p ≡ true)
@@ -38,52 +38,36 @@ move-owned {t} s r n x {m} own-n e =
 
 -- ---- the costs of nodes
 
--- in a relaxed row no list of moves is cheaper than what stands there
-relaxed-walk : {t : Tree} → Sound t → (r : Rows) {m f : ℕ} → Relaxed t r m f → {n : ℕ} (c : ℕ) (xs : List ℕ) {b : Arrival} → t .owner n ≡ some m
-    → r .cost n ≡ some c → walk t r n xs ≡ some b → Bounded (r .cost) c b
-relaxed-walk {t} s r {m} row {n} c xs own-n cost e =
-    bounded-run (move t r) (r .cost) (λ u. t .owner u ≡ some m)
-    (λ u d x a own-u cost-u step. (move-owned s r u x own-u step, row .moves u d x a own-u cost-u step)) n c xs own-n cost e
-
--- one move more
-walk-on : (t : Tree) (r : Rows) (n x : ℕ) (xs : List ℕ) {u v c d : ℕ} → walk t r n xs ≡ some (record { node = u; cost = c })
-    → move t r u x ≡ some (record { node = v; cost = d }) → walk t r n (xs ++ (x ∷ [])) ≡ some (record { node = v; cost = c + d })
-walk-on t r n x xs {u} {v} {c} {d} way step =
-    run-join (move t r) n xs (x ∷ []) way (run-cons (move t r) u x [] step (run-nil (move t r) v))
-    ∙ ap (λ (k : ℕ). some (record { node = v; cost = k })) (omega arith)
+-- the names of a row, under its moves
+row-led : (t : Tree) (r : Rows) {m f : ℕ} → Attained t r m f → (n c : ℕ) → t .owner n ≡ some m → (n ≡ f → ⊥) → r .cost n ≡ some c
+    → Led (move t r) (λ u. t .owner u ≡ some m) (r .cost) (r .before) n c
+row-led t r row n c own-n other cost =
+    let name = row .named n c own-n other cost in
+    record {
+      node = name .node;
+      command = name .command;
+      node-cost = name .node-cost;
+      step-cost = name .step-cost;
+      names = name .before;
+      holds = name .owned;
+      reached = name .reached;
+      moves = name .moves;
+      exact = name .exact;
+    }
 
 -- what a row's names lead to is a list of moves
-abbrev Walked : Tree → Rows → ℕ → ℕ → ℕ → Type 0
-Walked t r f n c = (xs : List ℕ) × (walk t r f xs ≡ some (record { node = n; cost = c }))
-
-attained-walk : (t : Tree) (r : Rows) {m f : ℕ} → Attained t r m f → (n c : ℕ) → t .owner n ≡ some m → r .cost n ≡ some c → Walked t r f n c
-attained-walk t r {m} {f} row n c own-n cost =
+attained-walk : (t : Tree) (r : Rows) {m f : ℕ} → Attained t r m f → (n c : ℕ) → t .owner n ≡ some m → r .cost n ≡ some c → Reaches (move t r) f n c
+attained-walk t r {m} row n c own-n cost =
     let (k, short, way) = row .chain n c own-n cost in
-    along-names (r .before) (λ u. t .owner u ≡ some m → (d : ℕ) → r .cost u ≡ some d → Walked t r f u d)
-    (λ own-f d cost-f. subst (Walked t r f f) (some-same (row .start-cost) cost-f) ([], run-nil (move t r) f))
-    (λ v u before reach own-v d cost-v.
-    let name = row .named v d own-v (λ same. none-some (row .start-before) (subst (λ (w : ℕ). r .before w ≡ some u) same before)) cost-v in
-    let same-node : u ≡ name .node = some-same before (name .before) in
-    let (xs, led) =
-    subst (λ (w : ℕ). (t .owner w ≡ some m → (d : ℕ) → r .cost w ≡ some d → Walked t r f w d)) same-node reach (name .owned) (name .node-cost) (name .reached) in
-    subst (Walked t r f v) (sym (name .exact)) (xs ++ (name .command ∷ []), walk-on t r f (name .command) xs led (name .moves)))
-    k n way own-n c cost
+    named-reaches (move t r) (λ u. t .owner u ≡ some m) (r .cost) (r .before) (row .start-cost) (row .start-before) (row-led t r row) k n c own-n cost way
 
--- so the cost that stands there is the least
+-- the cost that stands there is the least
 least-walk : {t : Tree} → Sound t → (r : Rows) {m f : ℕ} → t .start m ≡ some f → Relaxed t r m f → Attained t r m f → (n : ℕ) → t .owner n ≡ some m
-    → (o : Option ℕ) → r .cost n ≡ o → LeastWalk t r f n o
-least-walk {t} s r {m} {f} st relaxed row n own-n none e =
-    λ c walked.
-    let (xs, way) = walked in
-    let (d, cost, le) = relaxed-walk s r relaxed 0 xs (s .start-owned m f st) (row .start-cost) way in
-    none-some e cost
-least-walk {t} s r {m} {f} st relaxed row n own-n (some c) e = (
-  attained-walk t r row n c own-n e,
-  λ d walked.
-      let (xs, way) = walked in
-      let (b, cost, le) = relaxed-walk s r relaxed 0 xs (s .start-owned m f st) (row .start-cost) way in
-      omega (arith, some-same e cost),
-)
+    → LeastWalk t r f n (r .cost n)
+least-walk {t} s r {m} {f} st relaxed row =
+    least-reaches (move t r) (λ u. t .owner u ≡ some m) (r .cost) (r .before) (row .start-cost) (row .start-before) (row-led t r row)
+    (s .start-owned m f st) (λ n c x b own-n cost step. (move-owned s r n x own-n step, relaxed .moves n c x b own-n cost step))
+    (λ n c own-n cost. let (k, short, way) = row .chain n c own-n cost in (k, way))
 
 -- ---- the exit costs
 
@@ -172,7 +156,7 @@ module _ (t : Tree) (s : Sound t) (r : Rows) (local : LocalRows t r) (m f : ℕ)
   local-machine =
       let row = local .attained m f st full in
       record {
-        least = λ n own-n. least-walk s r st (local .relaxed m f st full) row n own-n (r .cost n) refl;
+        least = λ n own-n. least-walk s r st (local .relaxed m f st full) row n own-n;
         start-cost = row .start-cost;
         start-before = row .start-before;
         start-by = row .start-by;
@@ -218,7 +202,7 @@ true-relaxed {t} s r rows m f st full =
           λ n c x b own-n cost step.
           let (xs, way) = attained-walk t r (true-attained row) n c own-n cost in
           least-there _ (r .cost (b .node)) (row .least (b .node) (move-owned s r n x own-n step))
-          (xs ++ (x ∷ []), walk-on t r f x xs way step);
+          (xs ++ (x ∷ []), run-on (move t r) f x xs way step);
       exits =
           λ n c x e own-n cost range free exit.
           least-there _ (r .exit m x) (row .exit x range)

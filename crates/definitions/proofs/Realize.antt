@@ -2,11 +2,10 @@
 -- reached at its cost by following the names, and an exit cost is that of a list. Assumes nothing.
 use mathlib.Core.Path.{_≡_, refl, sym, _∙_, ap, subst, subst₂}
 use mathlib.Core.Bool.{false}
-use mathlib.Core.Option.{Option, none, some}
+use mathlib.Core.Option.{none, some}
 use mathlib.Core.List.{List, [], _∷_, _++_}
 use Prim.Native.Nat.{ℕ, zero, suc, _+_, _≤_, _<_}
 use native.Mathlib.Omega.{arith}
-use Rattle.definitions.specs.Basics.{iterate}
 use Rattle.definitions.specs.Limits.{commands, levels}
 use Rattle.definitions.specs.Tree.{Tree, Sound, parent}
 use Rattle.definitions.specs.Step.{enter, counting, leaving, Climb, found, passed, past, climb, Arrival, follow, stepIn, runIn}
@@ -16,6 +15,7 @@ use Rattle.definitions.specs.Truth.{nodeExit, Named}
 use Rattle.definitions.proofs.Options.{bind-some, none-some, some-same}
 use Rattle.definitions.proofs.Path.{Deep, deep, deep-small, deep-below, parent-below, Enters, plain, down, enters, enters-enter, enter-enters, Inside, own, climb-own, climb-top, climb-found}
 use Rattle.definitions.proofs.Runs.{onto, run-first, run-cons, run-nil, run-join}
+use Rattle.definitions.proofs.Reaching.{along-names}
 use Rattle.definitions.proofs.Inside.{enters-inside, found-inside, climb-wider, beyond}
 use Rattle.definitions.proofs.Exits.{ExitParts, exit-parts, parts-exit, start-enters}
 use Rattle.definitions.proofs.Local.{Attained, exit-plain, refined-exit, move-parts}
@@ -136,15 +136,6 @@ leads-on {t} s r {top} {e} {u} {w} {v} {c} {cost} {d} x i way exit up lower =
       runs = whole ∙ ap (λ (k : ℕ). some (record { node = f; cost = k })) (omega (arith, out .exact));
       enters = en;
     }
-
--- what holds of the start and is handed on along the names holds of every node that they lead back from
-pub along-names : (before : ℕ → Option ℕ) (P : ℕ → Type 0) {s : ℕ} → P s → ((n u : ℕ) → before n ≡ some u → P u → P n)
-    → (k n : ℕ) → iterate before k n ≡ some s → P n
-unfolding iterate
-along-names before P first on zero n e = subst P (some-same e refl) first
-along-names before P first on (suc k) n e =
-    let (u, eu, rest) = bind-some (before n) (iterate before k) e in
-    on n u eu (along-names before P first on k u rest)
 
 -- ---- every cost and exit cost of the rows
 

@@ -1,0 +1,9 @@
+pub mod Reading
+pub mod Counting
+pub mod Stores
+pub mod Filling
+pub mod Picking
+pub mod Settling
+pub mod Ended
+pub mod Turning
+pub mod Least
