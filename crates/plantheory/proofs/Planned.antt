@@ -20,7 +20,7 @@ use Rattle.definitions.proofs.Path.{Enters, plain, down, climb-found}
 use Rattle.definitions.proofs.Runs.{run-first}
 use Rattle.definitions.proofs.Local.{LocalRows}
 use Rattle.definitions.proofs.LocalTruth.{true-local}
-use Rattle.definitions.proofs.Realize.{along-names}
+use Rattle.definitions.proofs.Reaching.{along-names}
 use Rattle.definitions.proofs.Simple.{trail, trail-nil, passes-trail, inside-root, state-test, step-stepped, moves-length}
 use Rattle.plantheory.specs.Search.{openedFor, planMove, PlanNamed, PlanSearched}
 use Rattle.plantheory.specs.Expand.{nodePart, planPart}
