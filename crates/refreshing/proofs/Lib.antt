@@ -1,0 +1,4 @@
+pub mod Bounds
+pub mod Filling
+pub mod Certified
+pub mod Row

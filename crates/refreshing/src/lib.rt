@@ -1,0 +1,1 @@
+// Refresh (document 01, "Loading a stream"): every marked row is filled and unmarked.
