@@ -1,9 +1,30 @@
--- What the answer of `used_part` means.
+-- What the answers of this crate's functions mean.
 use mathlib.Core.Option.{Option, none, some}
-use Rattle.definitions.specs.Choose.{Used}
+use Prim.Native.Nat.{ℕ}
+use Rattle.definitions.specs.Choose.{Used, Choice, first, second}
 use Rattle.choosing.specs.declared.Part.{Part}
 use Rattle.choosing.specs.declared.Part.the-variants.{Arrives, Ends}
+use Rattle.choosing.specs.declared.Chosen.{Chosen}
+use Rattle.choosing.specs.declared.Chosen.the-variants.{First, Second, Refused}
 
+-- the used part that an answer says
 abbrev pub usedIn : Part → Option Used
 usedIn (Arrives k c) = some (record { count = k; cost = c })
 usedIn Ends = none
+
+-- the part that an answer of `choice` says, and document 01's number; refused, the empty front of the first list
+abbrev pub choiceOf : Chosen → Choice
+choiceOf (First k) = first k
+choiceOf (Second k) = second k
+choiceOf (Refused n) = first 0
+
+abbrev pub numberOf : Chosen → ℕ
+numberOf (First k) = 0
+numberOf (Second k) = 0
+numberOf (Refused n) = n
+
+-- the answer for a choice; where there is none, 18
+abbrev pub chosenBy : Option Choice → Chosen
+chosenBy none = Refused 18
+chosenBy (some (first k)) = First k
+chosenBy (some (second k)) = Second k

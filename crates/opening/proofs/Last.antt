@@ -1,0 +1,65 @@
+-- The greatest number under a limit that passes a test. Assumes nothing.
+use mathlib.Core.Path.{_≡_, refl}
+use mathlib.Core.Logic.{⊎-elim}
+use mathlib.Core.Bool.{Bool, true, false, cond}
+use mathlib.Core.Option.{none, some}
+use mathlib.Core.List.{List, [], _∷_}
+use Prim.Native.Nat.{ℕ, zero, suc, _<_}
+use native.Mathlib.Nat.{not-suc-le-zero, le-of-suc-le-suc}
+use native.Mathlib.Omega.{arith}
+use lib.ListN.{length, getD}
+use Rattle.definitions.proofs.Options.{equal-or-not, some-same, none-some}
+use Rattle.opening.specs.Table.{lastUnder}
+
+-- a test that cannot be true is false
+pub refuted : (b : Bool) → (b ≡ true → ⊥) → b ≡ false
+refuted true h = absurd (h refl)
+refuted false h = refl
+
+-- one number more: it is the greatest where it passes
+pub last-more : (k : ℕ) (p : ℕ → Bool) → lastUnder (suc k) p ≡ cond (p k) (some k) (lastUnder k p)
+unfolding lastUnder
+last-more k p = refl
+
+-- where no number under the limit passes there is none
+pub last-none : (k : ℕ) (p : ℕ → Bool) → ((j : ℕ) → j < k → p j ≡ false) → lastUnder k p ≡ none
+unfolding lastUnder
+last-none zero p h = refl
+last-none (suc k) p h = rw (h k (omega arith)) (last-none k p (λ j l. h j (omega arith)))
+
+-- a number that passes, where none above it does, is the greatest
+pub last-is : (k n : ℕ) (p : ℕ → Bool) → n < k → p n ≡ true → ((j : ℕ) → n < j → j < k → p j ≡ false) → lastUnder k p ≡ some n
+unfolding lastUnder
+last-is zero n p l e h = absurd (omega arith)
+last-is (suc k) n p l e h =
+    ⊎-elim (λ here. rw (← here, e))
+    (λ other. rw (h k (omega (arith, other)) (omega arith)) (last-is k n p (omega (arith, other)) e (λ j a b. h j a (omega arith))))
+    (equal-or-not n k)
+
+-- the only number that passes is the greatest
+pub last-only : (k n : ℕ) (p : ℕ → Bool) → n < k → p n ≡ true → ((j : ℕ) → j < k → p j ≡ true → j ≡ n) → lastUnder k p ≡ some n
+last-only k n p l e only = last-is k n p l e (λ j above under. refuted (p j) (λ f. omega (arith, only j under f)))
+
+-- what is found is under the limit
+pub last-under : (k : ℕ) (p : ℕ → Bool) (n : ℕ) → lastUnder k p ≡ some n → n < k
+unfolding lastUnder
+last-under zero p n e = absurd (none-some refl e)
+last-under (suc k) p n e = go (p k) (last-under k p n) e
+  where
+    go : (b : Bool) → (lastUnder k p ≡ some n → n < k) → cond b (some k) (lastUnder k p) ≡ some n → n < suc k
+    go true h f =
+        let here : k ≡ n = some-same refl f in
+        omega arith
+    go false h f = omega (arith, h f)
+
+-- tests that agree under the limit find the same number
+pub last-same : (k : ℕ) (p q : ℕ → Bool) → ((j : ℕ) → j < k → p j ≡ q j) → lastUnder k p ≡ lastUnder k q
+unfolding lastUnder
+last-same zero p q h = refl
+last-same (suc k) p q h = rw (h k (omega arith), last-same k p q (λ j l. h j (omega arith)))
+
+-- what a list holds at a place inside it does not depend on what it gives past its end
+pub getD-any : (l : List ℕ) (i d e : ℕ) → i < length l → getD l i d ≡ getD l i e
+getD-any [] i d e h = absurd (not-suc-le-zero h)
+getD-any (x ∷ xs) zero d e h = refl
+getD-any (x ∷ xs) (suc i) d e h = getD-any xs i d e (le-of-suc-le-suc h)

@@ -1,0 +1,10 @@
+pub mod Last
+pub mod Stores
+pub mod Growth
+pub mod Every
+pub mod Ladder
+pub mod Fresh
+pub mod Filling
+pub mod Reading
+pub mod Blank
+pub mod Kept

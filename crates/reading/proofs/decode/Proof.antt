@@ -1,0 +1,197 @@
+-- `reading::decode` meets its contract: the opcode says which operands there are, and they are there. Assumes nothing.
+use mathlib.Core.Path.{ap}
+use native.Mathlib.Omega.{arith}
+use denote.Ref.{now}
+use Prim.Native.Nat.{_+_}
+use lib.ListN.{drop}
+use Rattle.definitions.specs.Stream.{operandLength, decode}
+use Rattle.reading.proofs.Laws.{room, left-over}
+use Rattle.reading.proofs.decode.Statement.{statement}
+use Rattle.reading.proofs.decode.Tie as tie
+
+operand-requires : tie.Need-operand-requires
+unfolding operandLength
+operand-requires c κs =
+    let m = c in
+    omega (arith, room (m .before .before .pre) 3 (ap operandLength (m .match .keys1)))
+
+operand-pair-requires : tie.Need-operand-pair-requires
+unfolding operandLength
+operand-pair-requires c κs =
+    let m = c .before in
+    omega (arith, room (m .before .before .pre) 3 (ap operandLength (m .match .keys1)))
+
+operand-requires-2 : tie.Need-operand-requires-2
+unfolding operandLength
+operand-requires-2 c κs =
+    let m = c in
+    omega (arith, room (m .before .before .pre) 3 (ap operandLength (m .match .keys2)))
+
+operand-pair-requires-2 : tie.Need-operand-pair-requires-2
+unfolding operandLength
+operand-pair-requires-2 c κs =
+    let m = c .before in
+    omega (arith, room (m .before .before .pre) 3 (ap operandLength (m .match .keys2)))
+
+operand-pair-requires-3 : tie.Need-operand-pair-requires-3
+unfolding operandLength
+operand-pair-requires-3 c κs =
+    let m = c in
+    omega (arith, room (m .before .before .pre) 5 (ap operandLength (m .match .keys3)))
+
+operand-requires-3 : tie.Need-operand-requires-3
+unfolding operandLength
+operand-requires-3 c κs =
+    let m = c .before in
+    omega (arith, room (m .before .before .pre) 5 (ap operandLength (m .match .keys3)))
+
+operand-pair-requires-4 : tie.Need-operand-pair-requires-4
+unfolding operandLength
+operand-pair-requires-4 c κs =
+    let m = c .before .before in
+    omega (arith, room (m .before .before .pre) 5 (ap operandLength (m .match .keys3)))
+
+operand-pair-requires-5 : tie.Need-operand-pair-requires-5
+unfolding operandLength
+operand-pair-requires-5 c κs =
+    let m = c in
+    omega (arith, room (m .before .before .pre) 2 (ap operandLength (m .match .keys4)))
+
+operand-pair-requires-6 : tie.Need-operand-pair-requires-6
+unfolding operandLength
+operand-pair-requires-6 c κs =
+    let m = c in
+    omega (arith, room (m .before .before .pre) 7 (ap operandLength (m .match .keys5)))
+
+operand-requires-4 : tie.Need-operand-requires-4
+unfolding operandLength
+operand-requires-4 c κs =
+    let m = c .before in
+    omega (arith, room (m .before .before .pre) 7 (ap operandLength (m .match .keys5)))
+
+operand-pair-requires-7 : tie.Need-operand-pair-requires-7
+unfolding operandLength
+operand-pair-requires-7 c κs =
+    let m = c .before .before in
+    omega (arith, room (m .before .before .pre) 7 (ap operandLength (m .match .keys5)))
+
+operand-pair-requires-8 : tie.Need-operand-pair-requires-8
+unfolding operandLength
+operand-pair-requires-8 c κs =
+    let m = c .before .before .before in
+    omega (arith, room (m .before .before .pre) 7 (ap operandLength (m .match .keys5)))
+
+operand-pair-requires-9 : tie.Need-operand-pair-requires-9
+unfolding operandLength
+operand-pair-requires-9 c κs =
+    let m = c in
+    omega (arith, room (m .before .before .pre) 3 (ap operandLength (m .match .keys6)))
+
+operand-requires-5 : tie.Need-operand-requires-5
+unfolding operandLength
+operand-requires-5 c κs =
+    let m = c .before in
+    omega (arith, room (m .before .before .pre) 3 (ap operandLength (m .match .keys6)))
+
+operand-pair-requires-10 : tie.Need-operand-pair-requires-10
+unfolding operandLength
+operand-pair-requires-10 c κs =
+    let m = c in
+    omega (arith, room (m .before .before .pre) 2 (ap operandLength (m .match .keys7)))
+
+operand-requires-6 : tie.Need-operand-requires-6
+unfolding operandLength
+operand-requires-6 c κs =
+    let m = c in
+    omega (arith, room (m .before .before .pre) 3 (ap operandLength (m .match .keys8)))
+
+operand-pair-requires-11 : tie.Need-operand-pair-requires-11
+unfolding operandLength
+operand-pair-requires-11 c κs =
+    let m = c .before in
+    omega (arith, room (m .before .before .pre) 3 (ap operandLength (m .match .keys8)))
+
+returns : tie.Need-returns
+unfolding decode
+returns c =
+    let m = c .before .before in
+    (rw (m .match .keys1, c .before .operand .ensures .0, c .operand-pair .ensures .0), (c .before .operand .ensures .1, c .operand-pair .ensures .1))
+
+returns-2 : tie.Need-returns-2
+unfolding decode
+returns-2 c =
+    let m = c .before .before in
+    (rw (m .match .keys2, c .before .operand2 .ensures .0, c .operand-pair2 .ensures .0), (c .before .operand2 .ensures .1, c .operand-pair2 .ensures .1))
+
+returns-3 : tie.Need-returns-3
+unfolding decode
+returns-3 c =
+    let m = c .before .before .before in
+    (rw (m .match .keys3, c .before .before .operand-pair3 .ensures .0, c .before .operand3 .ensures .0, c .operand-pair4 .ensures .0), (c .before .before .operand-pair3 .ensures .1, c .before .operand3 .ensures .1, c .operand-pair4 .ensures .1))
+
+returns-4 : tie.Need-returns-4
+unfolding decode
+returns-4 c =
+    let m = c .before in
+    (rw (m .match .keys4, c .operand-pair5 .ensures .0), c .operand-pair5 .ensures .1)
+
+returns-5 : tie.Need-returns-5
+unfolding decode
+returns-5 c =
+    let m = c .before .before .before .before in
+    (rw (m .match .keys5, c .before .before .before .operand-pair6 .ensures .0, c .before .before .operand4 .ensures .0, c .before .operand-pair7 .ensures .0, c .operand-pair8 .ensures .0), (c .before .before .before .operand-pair6 .ensures .1, c .before .before .operand4 .ensures .1, c .before .operand-pair7 .ensures .1, c .operand-pair8 .ensures .1))
+
+returns-6 : tie.Need-returns-6
+unfolding decode
+returns-6 c =
+    let m = c .before .before in
+    (rw (m .match .keys6, c .before .operand-pair9 .ensures .0, c .operand5 .ensures .0), (c .before .operand-pair9 .ensures .1, c .operand5 .ensures .1))
+
+returns-7 : tie.Need-returns-7
+unfolding decode
+returns-7 c =
+    let m = c .before in
+    (rw (m .match .keys7, c .operand-pair10 .ensures .0), c .operand-pair10 .ensures .1)
+
+returns-8 : tie.Need-returns-8
+unfolding decode
+returns-8 c =
+    let m = c .before .before in
+    (rw (m .match .keys8, c .before .operand6 .ensures .0, c .operand-pair11 .ensures .0), (c .before .operand6 .ensures .1, c .operand-pair11 .ensures .1))
+
+returns-9 : tie.Need-returns-9
+returns-9 c =
+    let r = c .match .rest in
+    let a = c .before .before .args in
+    (left-over (a .op) (drop (a .at + 1) (now (a .stream))) (r .0 .0 .0 .0 .0 .0 .0 .1) (r .0 .0 .0 .0 .0 .0 .1) (r .0 .0 .0 .0 .0 .1) (r .0 .0 .0 .0 .1) (r .0 .0 .0 .1) (r .0 .0 .1) (r .0 .1) (r .1), tt)
+
+pub decode-spec : {M : Type 1} → statement M
+decode-spec =
+    tie.close
+    (tie.spec
+    operand-requires
+    operand-pair-requires
+    operand-requires-2
+    operand-pair-requires-2
+    operand-pair-requires-3
+    operand-requires-3
+    operand-pair-requires-4
+    operand-pair-requires-5
+    operand-pair-requires-6
+    operand-requires-4
+    operand-pair-requires-7
+    operand-pair-requires-8
+    operand-pair-requires-9
+    operand-requires-5
+    operand-pair-requires-10
+    operand-requires-6
+    operand-pair-requires-11
+    returns
+    returns-2
+    returns-3
+    returns-4
+    returns-5
+    returns-6
+    returns-7
+    returns-8
+    returns-9)

@@ -1,0 +1,166 @@
+// The next command of a stream (document 01, "Loading a stream"). A stream is its bytes and how many of them are taken.
+ghost use mathlib.Core.Path.{_≡_};
+ghost use Prim.Native.Nat.{_+_, _<_};
+ghost use lib.ListN.{length, drop};
+ghost use Rattle.definitions.specs.Stream.{operandLength, byteAt, pairAt, decode};
+ghost use Rattle.reading.specs.Meaning.{operandsOf, commandOf, Narrow, Whole, NextRead};
+
+// The nine commands of a stream, with their operands.
+pub enum Command {
+    Begin {
+        machine: u32,
+        node: u32,
+    },
+    Add {
+        machine: u32,
+        node: u32,
+    },
+    Refine {
+        node: u32,
+        machine: u32,
+        first: u32,
+    },
+    Remove {
+        node: u32,
+    },
+    Arrow {
+        node: u32,
+        command: u32,
+        target: u32,
+        cost: u32,
+    },
+    Clear {
+        node: u32,
+        command: u32,
+    },
+    Start {
+        node: u32,
+    },
+    Crown {
+        machine: u32,
+        node: u32,
+    },
+    Refresh,
+}
+
+// How many bytes of operands follow an opcode; or that it is the opcode of no command.
+pub enum Operands {
+    Bytes(usize),
+    Unknown,
+}
+
+// What stands next in a stream: nothing, a command and how many bytes it takes, or a refusal's number.
+pub enum Read {
+    Ended,
+    Taken { command: Command, size: usize },
+    Refused(u32),
+}
+
+// The byte at place i of a stream.
+fn byte(stream: &[u8], i: usize) -> u32
+    requires { ⌜ i < length (now stream) ⌝ }
+    ensures { λ r. ⌜ (r ≡ byteAt (now (stream .entry)) i) × (r < 256) ⌝ }
+{
+    let x = stream[i];
+    x as u32
+}
+
+// The operand of one byte at place k of the operands of the command at a place of a stream.
+fn operand(stream: &[u8], at: usize, k: usize) -> u32
+    requires { ⌜ at + 1 + k < length (now stream) ⌝ }
+    ensures { λ r. ⌜ (r ≡ byteAt (drop (at + 1) (now (stream .entry))) k) × (r < 256) ⌝ }
+{
+    byte(stream, at + 1 + k)
+}
+
+// The operand of two bytes, high byte first, from place k.
+fn operand_pair(stream: &[u8], at: usize, k: usize) -> u32
+    requires { ⌜ at + 2 + k < length (now stream) ⌝ }
+    ensures { λ r. ⌜ (r ≡ pairAt (drop (at + 1) (now (stream .entry))) k) × (r < 65536) ⌝ }
+{
+    let high = operand(stream, at, k);
+    let low = operand(stream, at, k + 1);
+    high * 256 + low
+}
+
+// How many bytes of operands an opcode has.
+pub fn operand_length(op: u32) -> Operands
+    ensures { λ r. ⌜ operandsOf r ≡ operandLength op ⌝ }
+{
+    match op {
+        0x10 => Operands::Bytes(3),
+        0x11 => Operands::Bytes(3),
+        0x12 => Operands::Bytes(5),
+        0x13 => Operands::Bytes(2),
+        0x14 => Operands::Bytes(7),
+        0x15 => Operands::Bytes(3),
+        0x16 => Operands::Bytes(2),
+        0x17 => Operands::Bytes(3),
+        0x18 => Operands::Bytes(0),
+        0x00..=0x0F | 0x19..=0xFFFFFFFF => Operands::Unknown,
+    }
+}
+
+// The command whose opcode, at a place of a stream, is op. Its operands are all there.
+pub fn decode(stream: &[u8], at: usize, op: u32) -> Command
+    requires { ⌜ Whole (now stream) at op ⌝ }
+    ensures { λ r. ⌜ (commandOf r ≡ decode op (drop (at + 1) (now (stream .entry)))) × Narrow r ⌝ }
+{
+    match op {
+        0x10 => Command::Begin {
+            machine: operand(stream, at, 0),
+            node: operand_pair(stream, at, 1),
+        },
+        0x11 => Command::Add {
+            machine: operand(stream, at, 0),
+            node: operand_pair(stream, at, 1),
+        },
+        0x12 => Command::Refine {
+            node: operand_pair(stream, at, 0),
+            machine: operand(stream, at, 2),
+            first: operand_pair(stream, at, 3),
+        },
+        0x13 => Command::Remove {
+            node: operand_pair(stream, at, 0),
+        },
+        0x14 => Command::Arrow {
+            node: operand_pair(stream, at, 0),
+            command: operand(stream, at, 2),
+            target: operand_pair(stream, at, 3),
+            cost: operand_pair(stream, at, 5),
+        },
+        0x15 => Command::Clear {
+            node: operand_pair(stream, at, 0),
+            command: operand(stream, at, 2),
+        },
+        0x16 => Command::Start {
+            node: operand_pair(stream, at, 0),
+        },
+        0x17 => Command::Crown {
+            machine: operand(stream, at, 0),
+            node: operand_pair(stream, at, 1),
+        },
+        _ => Command::Refresh,
+    }
+}
+
+// The next command of a stream of which so many bytes are taken, as it is written: its end, a command and its size, or the refusal
+// 5 (unknown opcode) or 4 (cut short).
+pub fn command_at(stream: &[u8], taken: usize) -> Read
+    ensures { λ r. ⌜ NextRead (now (stream .entry)) taken r ⌝ }
+{
+    if stream.len() <= taken {
+        return Read::Ended;
+    }
+    let op = byte(stream, taken);
+    let Operands::Bytes(size) = operand_length(op) else {
+        return Read::Refused(5);
+    };
+    if stream.len() - taken <= size {
+        return Read::Refused(4);
+    }
+    Read::Taken {
+        command: decode(stream, taken, op),
+        size: 1 + size,
+    }
+}
