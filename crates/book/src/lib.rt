@@ -1,11 +1,15 @@
-// The words of a book (document 01, "Book and sheet in memory"), read one at a time. A book here has its 4,737 words, and numbers
-// are in range; what a word says is then what the book's tree says.
+// The words of a book (document 01, "Book and sheet in memory"), read and written one at a time. A book here has its 4,737 words, and
+// numbers are in range; what a word says is then what the book's tree says, and a store changes one field of that tree.
 ghost use mathlib.Core.Path.{_≡_};
 ghost use Prim.Native.Nat.{_<_};
 ghost use lib.ListN.{length};
 ghost use Rattle.definitions.specs.Limits.{machines, nodes, commands, bookLength};
 ghost use Rattle.definitions.specs.Tree.{Tree};
 ghost use Rattle.definitions.specs.Book.{word, transitionWord, machineFields, nodeFields, machineField, nodeField, treeOf};
+ghost use Rattle.definitions.specs.Book.{number, transitionOf};
+ghost use Rattle.definitions.specs.Edit.{withTransition};
+ghost use Rattle.book.specs.Fields.{Holds, withRoot, withHolder, withStartOf, withOwner, withBelow, withoutTransitions};
+ghost use Rattle.book.specs.Fields.{withMachineField, withNodeField, withoutMachine, withoutNode};
 
 // The words of a book.
 pub const BOOK: usize = 4737;
@@ -86,4 +90,101 @@ pub fn transition(book: &[u32], n: u32, x: u32) -> u32
     ensures { λ r. ⌜ r ≡ transitionWord (treeOf (now (book .entry)) .transition n x) ⌝ }
 {
     node_word(book, n, 2 + x)
+}
+
+// Makes v the word at place k of machine m's record; every other word stays.
+pub fn set_machine_word(book: &mut [u32], m: u32, k: u32, v: u32)
+    requires { ⌜ (length (now book) ≡ bookLength) × (m < machines) × (k < machineFields) ⌝ }
+    ensures { λ r. ⌜ Holds (now (book .exit)) (withMachineField (treeOf (now (book .entry))) m k v) ⌝ }
+{
+    let i = 1 + 2 * (m as usize) + (k as usize);
+    book[i] = v;
+}
+
+// Makes v the word at place k of node n's record; every other word stays.
+pub fn set_node_word(book: &mut [u32], n: u32, k: u32, v: u32)
+    requires { ⌜ (length (now book) ≡ bookLength) × (n < nodes) × (k < nodeFields) ⌝ }
+    ensures { λ r. ⌜ Holds (now (book .exit)) (withNodeField (treeOf (now (book .entry))) n k v) ⌝ }
+{
+    let i = 129 + 18 * (n as usize) + (k as usize);
+    book[i] = v;
+}
+
+// Makes m the root machine.
+pub fn set_root(book: &mut [u32], m: u32)
+    requires { ⌜ length (now book) ≡ bookLength ⌝ }
+    ensures { λ r. ⌜ Holds (now (book .exit)) (withRoot (treeOf (now (book .entry))) m) ⌝ }
+{
+    book[0] = m;
+}
+
+// Makes v the node that holds machine m; ABSENT for none.
+pub fn set_holder(book: &mut [u32], m: u32, v: u32)
+    requires { ⌜ (length (now book) ≡ bookLength) × (m < machines) ⌝ }
+    ensures { λ r. ⌜ Holds (now (book .exit)) (withHolder (treeOf (now (book .entry))) m (number v)) ⌝ }
+{
+    set_machine_word(book, m, 0, v);
+}
+
+// Makes v the start node of machine m; ABSENT for none.
+pub fn set_start(book: &mut [u32], m: u32, v: u32)
+    requires { ⌜ (length (now book) ≡ bookLength) × (m < machines) ⌝ }
+    ensures { λ r. ⌜ Holds (now (book .exit)) (withStartOf (treeOf (now (book .entry))) m (number v)) ⌝ }
+{
+    set_machine_word(book, m, 1, v);
+}
+
+// Makes v the machine that node n belongs to; ABSENT for none.
+pub fn set_owner(book: &mut [u32], n: u32, v: u32)
+    requires { ⌜ (length (now book) ≡ bookLength) × (n < nodes) ⌝ }
+    ensures { λ r. ⌜ Holds (now (book .exit)) (withOwner (treeOf (now (book .entry))) n (number v)) ⌝ }
+{
+    set_node_word(book, n, 0, v);
+}
+
+// Makes v the machine that node n holds; ABSENT for none.
+pub fn set_below(book: &mut [u32], n: u32, v: u32)
+    requires { ⌜ (length (now book) ≡ bookLength) × (n < nodes) ⌝ }
+    ensures { λ r. ⌜ Holds (now (book .exit)) (withBelow (treeOf (now (book .entry))) n (number v)) ⌝ }
+{
+    set_node_word(book, n, 1, v);
+}
+
+// Makes w the transition of node n for command x, target and cost in one word; BLANK for none.
+pub fn set_transition(book: &mut [u32], n: u32, x: u32, w: u32)
+    requires { ⌜ (length (now book) ≡ bookLength) × (n < nodes) × (x < commands) ⌝ }
+    ensures { λ r. ⌜ Holds (now (book .exit)) (withTransition (treeOf (now (book .entry))) n x (transitionOf w)) ⌝ }
+{
+    set_node_word(book, n, 2 + x, w);
+}
+
+// Leaves machine m's record as an unused one has it.
+pub fn clear_machine(book: &mut [u32], m: u32)
+    requires { ⌜ (length (now book) ≡ bookLength) × (m < machines) ⌝ }
+    ensures { λ r. ⌜ Holds (now (book .exit)) (withoutMachine (treeOf (now (book .entry))) m) ⌝ }
+{
+    set_holder(book, m, ABSENT);
+    set_start(book, m, ABSENT);
+}
+
+// Leaves node n no transition.
+pub fn clear_transitions(book: &mut [u32], n: u32)
+    requires { ⌜ (length (now book) ≡ bookLength) × (n < nodes) ⌝ }
+    ensures { λ r. ⌜ Holds (now (book .exit)) (withoutTransitions (treeOf (now (book .entry))) n) ⌝ }
+{
+    let mut x = 0u32;
+    while x < COMMANDS {
+        set_transition(book, n, x, BLANK);
+        x += 1;
+    }
+}
+
+// Leaves node n's record as an unused one has it.
+pub fn clear_node(book: &mut [u32], n: u32)
+    requires { ⌜ (length (now book) ≡ bookLength) × (n < nodes) ⌝ }
+    ensures { λ r. ⌜ Holds (now (book .exit)) (withoutNode (treeOf (now (book .entry))) n) ⌝ }
+{
+    set_owner(book, n, ABSENT);
+    set_below(book, n, ABSENT);
+    clear_transitions(book, n);
 }

@@ -1,0 +1,28 @@
+-- `book::clear_machine` meets its contract: its two stores. Assumes nothing.
+use mathlib.Core.Option.{none}
+use borrow.Author.Needs.{needs}
+use Rattle.definitions.specs.Book.{number}
+use Rattle.book.specs.Fields.{withStartOf}
+use Rattle.book.proofs.Stores.{holds-then}
+use Rattle.book.proofs.clear_machine.Statement.{statement}
+use Rattle.book.proofs.clear_machine.Tie as tie
+
+set-holder-requires : tie.Need-set-holder-requires
+set-holder-requires c κs = search needs
+
+set-start-requires : tie.Need-set-start-requires
+set-start-requires c κs = search needs
+
+same-length : tie.Need-same-length
+same-length c = search needs
+
+returns : tie.Need-returns
+unfolding number
+returns c =
+    let holder = c .before .before .before .before in
+    let m = holder .before .before .before .before .before .args .m in
+    holds-then (λ t. withStartOf t m none) (holder .before .before .set-holder .ensures) (c .before .before .set-start .ensures)
+
+pub clear-machine-spec : {M : Type 1} → statement M
+clear-machine-spec =
+    tie.close (tie.spec set-holder-requires set-start-requires same-length returns)
