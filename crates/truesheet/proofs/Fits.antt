@@ -1,11 +1,11 @@
 -- A sheet is true exactly where every machine and every node of it fits and the names of every reached node lead to its start.
 -- Assumes nothing.
-use mathlib.Core.Path.{_≡_, refl, subst}
+use mathlib.Core.Path.{_≡_, refl, ap, subst}
 use mathlib.Core.Logic.{_↔_, ⊎-elim}
-use mathlib.Core.Bool.{true, false}
+use mathlib.Core.Bool.{false}
 use mathlib.Core.Option.{none, some}
 use mathlib.Core.List.{List}
-use Prim.Native.Nat.{ℕ, _≤_, _<_}
+use Prim.Native.Nat.{ℕ, zero, suc, _≤_, _<_}
 use native.Mathlib.Omega.{arith}
 use native.Mathlib.Nat.{lt-of-not-le}
 use native.Mathlib.Decide.{decLe}
@@ -14,17 +14,17 @@ use Rattle.definitions.specs.Basics.{iterate}
 use Rattle.definitions.specs.Limits.{machines, nodes, sheetLength}
 use Rattle.definitions.specs.Tree.{Tree, Sound}
 use Rattle.definitions.specs.Sheet.{Rows, rowsOf}
-use Rattle.definitions.specs.Truth.{BlankMachine, BlankNode, BlankRule, TrueSheet}
-use Rattle.definitions.proofs.Options.{some-same, true-false, decided}
+use Rattle.definitions.specs.Truth.{BlankMachine, BlankNode, BlankRule, Named, TrueSheet}
+use Rattle.definitions.proofs.Options.{bind-some, none-some, some-same, present, equal-or-not, decided}
 use Rattle.definitions.proofs.Path.{counting-range}
 use Rattle.definitions.proofs.Local.{Relaxed, Attained, LocalRows, move-parts}
 use Rattle.definitions.proofs.LocalTruth.{local-true, true-local}
-use Rattle.truesheet.specs.Fits.{MachineFits, MachinesFit, StartFits, FilledFits, NodeFits, NodesFit, Reached, Steps, ChainFits, ChainsFit}
+use Rattle.truesheet.specs.Fits.{MachineFits, MachinesFit, StartFits, FilledFits, NodeFits, NodesFit, ChainFits, ChainsFit, NamesFit}
 use Rattle.truesheet.proofs.Reading.{ReadRows, rowsOf-read, cost-outside, number-outside}
 
 -- every machine, every node, every chain of names fits
 abbrev pub AllFit : Tree → List ℕ → Type 0
-AllFit t ws = MachinesFit t ws × NodesFit t (rowsOf ws) × ChainsFit t (rowsOf ws)
+AllFit t ws = MachinesFit t ws × NodesFit t (rowsOf ws) × ChainsFit (rowsOf ws)
 
 -- ---- from a true sheet
 
@@ -51,7 +51,8 @@ module _ {t : Tree} (s : Sound t) {ws : List ℕ} (sheet : TrueSheet t ws) where
       record {
         start =
             λ here.
-            subst (StartFits (rowsOf ws)) (some-same st here) (record { cost = row .start-cost; before = row .start-before; by = row .start-by });
+            subst (StartFits (rowsOf ws)) (some-same st here)
+            (record { cost = row .start-cost; before = row .start-before; by = row .start-by });
         unreached = row .unreached n own;
         named = λ c cost other. row .named n c own (λ same. other (subst (λ (k : ℕ). t .start m ≡ some k) (cc) st)) cost;
         relaxed =
@@ -70,11 +71,28 @@ module _ {t : Tree} (s : Sound t) {ws : List ℕ} (sheet : TrueSheet t ws) where
             filled-fits n m f own full st;
       }
 
-  chain-fits : (n : ℕ) → ChainFits t (rowsOf ws) n
-  chain-fits n at =
-      let (f, st) = s .owner-used n (at .machine) (at .owned) in
-      let (k, short, leads) = local .attained (at .machine) f st (at .filled) .chain n (at .cost) (at .owned) (at .reached) in
-      (k, short, record { machine = at .machine; start = f; owned = at .owned; starts = st; leads = leads })
+  -- a chain of no names
+  no-steps : (n : ℕ) → BlankNode (rowsOf ws) n → ChainFits (rowsOf ws) n
+  unfolding iterate
+  no-steps n empty = (0, omega arith, record { first = n; leads = refl; ends = empty .before })
+
+  filled-chain : (n m f : ℕ) → t .owner n ≡ some m → rowsOf ws .stale m ≡ false → t .start m ≡ some f → ChainFits (rowsOf ws) n
+  filled-chain n m f own full st =
+      let row = local .attained m f st full in
+      ⊎-elim (λ far. no-steps n (row .unreached n own far))
+      (λ at.
+      let (k, short, leads) = row .chain n (at .0) own (at .1) in
+      (k, short, record { first = f; leads = leads; ends = row .start-before }))
+      (present (rowsOf ws .cost n))
+
+  chain-fits : (n : ℕ) → ChainFits (rowsOf ws) n
+  chain-fits n =
+      ⊎-elim (λ free. no-steps n (local .blanks .unused-node n free))
+      (λ own.
+      let (f, st) = s .owner-used n (own .0) (own .1) in
+      ⊎-elim (λ is. no-steps n (local .blanks .stale-node n (own .0) (own .1) is))
+      (λ full. filled-chain n (own .0) f (own .1) full st) (decided (rowsOf ws .stale (own .0))))
+      (present (t .owner n))
 
 -- ---- to a true sheet
 
@@ -138,6 +156,26 @@ module _ {t : Tree} (s : Sound t) {ws : List ℕ} (fits : AllFit t ws) where
           exits = λ n c x e own cost range free exit. filled n own .relaxed c cost x range .exits e free exit;
         }
 
+    named : (n c : ℕ) → t .owner n ≡ some m → (n ≡ f → ⊥) → r .cost n ≡ some c → Named t r m n c
+    named n c own other cost = filled n own .named c cost (λ here. other (some-same here st))
+
+    -- the names of a reached node lead to the start
+    to-start : (k n c : ℕ) {v : ℕ} → t .owner n ≡ some m → r .cost n ≡ some c → iterate (r .before) k n ≡ some v → r .before v ≡ none
+        → iterate (r .before) k n ≡ some f
+    unfolding iterate
+    to-start zero n c own cost e last =
+        ⊎-elim (λ same. ap some same)
+        (λ other. absurd (none-some (subst (λ (v : ℕ). r .before v ≡ none) (some-same e refl) last) (named n c own other cost .before)))
+        (equal-or-not n f)
+    to-start (suc k) n c own cost e last =
+        let (u, before, rest) = bind-some (r .before n) (iterate (r .before) k) e in
+        let first = filled f (s .start-owned m f st) .start st .before in
+        let name = named n c own (λ same. none-some first (subst (λ (v : ℕ). r .before v ≡ some u) same before)) cost in
+        let same : name .node ≡ u = some-same (name .before) before in
+        let own-u : t .owner u ≡ some m = subst (λ (v : ℕ). t .owner v ≡ some m) same (name .owned) in
+        let cost-u : r .cost u ≡ some (name .node-cost) = subst (λ (v : ℕ). r .cost v ≡ some (name .node-cost)) same (name .reached) in
+        rw before (to-start k u (name .node-cost) own-u cost-u rest last)
+
     attained : Attained t r m f
     attained =
         let start = filled f (s .start-owned m f st) .start st in
@@ -145,13 +183,11 @@ module _ {t : Tree} (s : Sound t) {ws : List ℕ} (fits : AllFit t ws) where
           start-cost = start .cost;
           start-before = start .before;
           start-by = start .by;
-          named = λ n c own other cost. filled n own .named c cost (λ here. other (some-same here st));
+          named = named;
           chain =
               λ n c own cost.
-              let (k, short, steps) = fits .2 n (s .node-range n m own) (record { machine = m; cost = c; owned = own; filled = full; reached = cost }) in
-              let same : steps .machine ≡ m = some-same (steps .owned) own in
-              let start-same : steps .start ≡ f = some-same (subst (λ (p : ℕ). t .start p ≡ some (steps .start)) same (steps .starts)) st in
-              (k, short, subst (λ (v : ℕ). iterate (r .before) k n ≡ some v) start-same (steps .leads));
+              let (k, short, steps) = fits .2 n (s .node-range n m own) in
+              (k, short, to-start k n c own cost (steps .leads) (steps .ends));
           unreached = λ n own. filled n own .unreached;
           ended = λ x c range. fits .0 m (s .machine-range m f st) .filled f st full x range .ended c;
           no-exit = λ x range. fits .0 m (s .machine-range m f st) .filled f st full x range .no-exit;
@@ -165,6 +201,28 @@ module _ {t : Tree} (s : Sound t) {ws : List ℕ} (fits : AllFit t ws) where
         relaxed = relaxed;
         attained = attained;
       }
+
+-- what stands before a node is a node
+pub names-fit : {t : Tree} → Sound t → {r : Rows} → ReadRows r → NodesFit t r → NamesFit r
+names-fit {t} s {r} read fits n u before = ⊎-elim (λ free. absurd (empty (node .unused free))) used (present (t .owner n))
+  where
+    node : NodeFits t r n
+    node = fits n (read .before n u before .0)
+
+    empty : BlankNode r n → ⊥
+    empty b = none-some (b .before) before
+
+    filled : (m : ℕ) → t .owner n ≡ some m → FilledFits t r m n → u < nodes
+    filled m own row =
+        ⊎-elim (λ far. absurd (empty (row .unreached far)))
+        (λ at.
+        let name = row .named (at .0) (at .1) (λ here. none-some (row .start here .before) before) in
+        s .node-range u m (subst (λ (v : ℕ). t .owner v ≡ some m) (some-same (name .before) before) (name .owned)))
+        (present (r .cost n))
+
+    used : (m : ℕ) × (t .owner n ≡ some m) → u < nodes
+    used (m, own) =
+        ⊎-elim (λ is. absurd (empty (node .stale m own is))) (λ full. filled m own (node .filled m own full)) (decided (r .stale m))
 
 -- the two are one, for a list of 2,880 words
 pub true-fits : {t : Tree} → Sound t → {ws : List ℕ} → length ws ≡ sheetLength → TrueSheet t ws ↔ AllFit t ws

@@ -7,8 +7,8 @@ use Prim.Native.Nat.{ℕ, _+_, _≤_, _<_}
 use native.Mathlib.Omega.{arith}
 use lib.Dec.{eqb, ltb}
 use borrow.Author.Tests.{ltb-true, ne-eqb}
-use Rattle.definitions.specs.Limits.{machines, nodes, commands, absent, blank}
-use Rattle.definitions.specs.Book.{word, number, under}
+use Rattle.definitions.specs.Limits.{machines, nodes, commands, blank}
+use Rattle.definitions.specs.Book.{number, under}
 use Rattle.definitions.specs.Sheet.{Rows, costWord, costOf, machineRowWord, nodeRowWord, rowsOf}
 use Rattle.definitions.proofs.Options.{none-some, some-same, true-false}
 use Rattle.definitions.proofs.Lists.{no-value}

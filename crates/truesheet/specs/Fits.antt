@@ -8,15 +8,29 @@ use mathlib.Core.List.{List}
 use Prim.Native.Nat.{ℕ, _+_, _≤_, _<_}
 use lib.ListN.{length, getD}
 use Rattle.definitions.specs.Basics.{iterate}
-use Rattle.definitions.specs.Limits.{machines, nodes, commands, longestChain}
+use Rattle.definitions.specs.Limits.{machines, nodes, commands, sheetLength, longestChain}
 use Rattle.definitions.specs.Tree.{Tree, parent}
 use Rattle.definitions.specs.Step.{counting, Arrival}
+use Rattle.definitions.specs.Book.{WellFormed}
 use Rattle.definitions.specs.Sheet.{Rows, machineRowWord, rowsOf}
 use Rattle.definitions.specs.Truth.{nodeExit, move, BlankMachine, BlankNode, Named, Ended}
 
 -- o is there and is no more than k
 abbrev pub AtMost : Option ℕ → ℕ → Type 0
 AtMost o k = (d : ℕ) × (o ≡ some d) × (d ≤ k)
+
+-- a book that is well formed, and a list with as many words as a sheet has
+pub record Holding (book sheet : List ℕ) : Type 0 where
+  pub well-formed : WellFormed book
+  pub long : length sheet ≡ sheetLength
+
+-- the cost of node u, its own exit cost for x and w together are c
+pub record AddsUp (t : Tree) (r : Rows) (u x w c : ℕ) : Type 0 where
+  pub node-cost : ℕ
+  pub node-exit : ℕ
+  pub reached : r .cost u ≡ some node-cost
+  pub exits : nodeExit t r u x ≡ some node-exit
+  pub exact : c ≡ node-cost + node-exit + w
 
 -- ---- a machine
 
@@ -83,52 +97,38 @@ NodesFit t r = (n : ℕ) → n < nodes → NodeFits t r n
 
 -- ---- the names that lead to a start
 
--- node n is reached in a machine that is not stale
-pub record Reached (t : Tree) (r : Rows) (n : ℕ) : Type 0 where
-  pub machine : ℕ
-  pub cost : ℕ
-  pub owned : t .owner n ≡ some machine
-  pub filled : r .stale machine ≡ false
-  pub reached : r .cost n ≡ some cost
+-- from node n, k names lead to a node that has none before it
+pub record Steps (r : Rows) (n k : ℕ) : Type 0 where
+  pub first : ℕ
+  pub leads : iterate (r .before) k n ≡ some first
+  pub ends : r .before first ≡ none
 
--- from node n, k names lead to the start node of n's machine
-pub record Steps (t : Tree) (r : Rows) (n k : ℕ) : Type 0 where
-  pub machine : ℕ
-  pub start : ℕ
-  pub owned : t .owner n ≡ some machine
-  pub starts : t .start machine ≡ some start
-  pub leads : iterate (r .before) k n ≡ some start
+-- and that in few enough steps
+abbrev pub ChainFits : Rows → ℕ → Type 0
+ChainFits r n = (k : ℕ) × (k ≤ longestChain) × Steps r n k
 
--- node n's names lead to the start in few enough steps
-abbrev pub Near : Tree → Rows → ℕ → Type 0
-Near t r n = (k : ℕ) × (k ≤ longestChain) × Steps t r n k
+abbrev pub ChainsFit : Rows → Type 0
+ChainsFit r = (n : ℕ) → n < nodes → ChainFits r n
 
--- so they do from every reached node
-abbrev pub ChainFits : Tree → Rows → ℕ → Type 0
-ChainFits t r n = Reached t r n → Near t r n
+-- what stands before a node is a node
+abbrev pub NamesFit : Rows → Type 0
+NamesFit r = (n u : ℕ) → r .before n ≡ some u → u < nodes
 
-abbrev pub ChainsFit : Tree → Rows → Type 0
-ChainsFit t r = (n : ℕ) → n < nodes → ChainFits t r n
+-- a list with as many words as a sheet has, in which what stands before a node is a node
+pub record Chained (sheet : List ℕ) : Type 0 where
+  pub long : length sheet ≡ sheetLength
+  pub names : NamesFit (rowsOf sheet)
 
 -- k is the number of steps from node n, or more than the most where there are too many
-pub record Follows (t : Tree) (r : Rows) (n k : ℕ) : Type 0 where
-  pub near : k ≤ longestChain → Steps t r n k
-  pub far : longestChain < k → Near t r n → ⊥
+pub record Follows (r : Rows) (n k : ℕ) : Type 0 where
+  pub near : k ≤ longestChain → Steps r n k
+  pub far : longestChain < k → ChainFits r n → ⊥
 
--- the count of a node that has not been counted yet
+-- the count of a node that is not counted yet
 abbrev pub uncounted : ℕ
 uncounted = 65535
 
--- what is counted is counted right
-abbrev pub CountedRight : Tree → Rows → List ℕ → Type 0
-CountedRight t r counts = (n : ℕ) → n < nodes → (getD counts n 0 ≡ uncounted → ⊥) → (getD counts n 0 ≤ longestChain) × Steps t r n (getD counts n 0)
-
--- the start nodes of machines below k are counted
-abbrev pub StartsCounted : Tree → List ℕ → ℕ → Type 0
-StartsCounted t counts k = (m s : ℕ) → m < k → t .start m ≡ some s → getD counts s 0 ≡ uncounted → ⊥
-
--- the counts of steps from nodes to their starts, as far as they are counted: those of start nodes are
-pub record Counted (t : Tree) (r : Rows) (counts : List ℕ) : Type 0 where
+-- the steps of the nodes that are counted
+pub record Counted (r : Rows) (counts : List ℕ) : Type 0 where
   pub size : length counts ≡ nodes
-  pub right : CountedRight t r counts
-  pub starts : StartsCounted t counts machines
+  pub right : (n : ℕ) → n < nodes → (getD counts n 0 ≡ uncounted → ⊥) → (getD counts n 0 ≤ longestChain) × Steps r n (getD counts n 0)
