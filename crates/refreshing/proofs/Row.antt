@@ -46,28 +46,28 @@ module _ {t : Tree} (sound : Sound t) {m : ℕ} {r q : Rows} (kept : ExitsKept m
   pub kept-move : (n x : ℕ) → t .owner n ≡ some m → x < commands → move t q n x ≡ move t r n x
   kept-move n x own range = same-move kept-moves n x own range
 
--- a way out is one wherever the node's own exit is the same
-way-kept : {t : Tree} {r q : Rows} {n x d : ℕ} {o : Option ℕ} → nodeExit t q n x ≡ nodeExit t r n x → Way t r n o x d → Way t q n o x d
-way-kept same way =
+-- a way out is one wherever the distance and the node's own exit are the same
+way-kept : {t : Tree} {r q : Rows} {n x d : ℕ} {o p : Option ℕ} → p ≡ o → nodeExit t q n x ≡ nodeExit t r n x → Way t r n o x d → Way t q n p x d
+way-kept far same way =
     record {
       node-cost = way .node-cost;
       node-exit = way .node-exit;
-      reached = way .reached;
+      reached = far ∙ way .reached;
       free = way .free;
       exits = same ∙ way .exits;
       exact = way .exact;
     }
 
 -- so the cheapest way out is the same
-pub cheapest-kept : {t : Tree} {r q : Rows} {members : ℕ → ℕ} {distance : ℕ → Option ℕ} {x j cost node : ℕ}
-    → ((i : ℕ) → i < j → nodeExit t q (members i) x ≡ nodeExit t r (members i) x)
-    → Cheapest t r members distance x j cost node → Cheapest t q members distance x j cost node
-cheapest-kept same best =
+pub cheapest-kept : {t : Tree} {r q : Rows} {members : ℕ → ℕ} {distance far : ℕ → Option ℕ} {x j cost node : ℕ}
+    → ((i : ℕ) → i < j → far i ≡ distance i) → ((i : ℕ) → i < j → nodeExit t q (members i) x ≡ nodeExit t r (members i) x)
+    → Cheapest t r members distance x j cost node → Cheapest t q members far x j cost node
+cheapest-kept far same best =
     record {
-      least = λ i d small way. best .least i d small (way-kept (sym (same i small)) way);
+      least = λ i d small way. best .least i d small (way-kept (sym (far i small)) (sym (same i small)) way);
       attained = λ there.
           let (i, small, node, way) = best .attained there in
-          (i, small, node, way-kept (same i small) way);
+          (i, small, node, way-kept (far i small) (same i small) way);
       top = best .top;
       never = best .never;
     }
@@ -130,7 +130,7 @@ module _ {t : Tree} (sound : Sound t) {r : Rows} (rows : TrueRows t r) {m s : �
         record {
           least = e .least;
           node = e .node;
-          cheapest = cheapest-kept (λ i small. kept-exit sound kept (members i) x (g .owned i small) range) (e .cheapest);
+          cheapest = cheapest-kept (λ i small. refl) (λ i small. kept-exit sound kept (members i) x (g .owned i small) range) (e .cheapest);
           says-exit = e .says-exit;
           says-last = e .says-last;
         } in
