@@ -20,7 +20,7 @@ use Rattle.search.specs.Parts.{at}
 use Rattle.sheet.specs.Fields.{Leaves, withExit, withLast}
 use Rattle.sheet.proofs.Stores.{leaves-then}
 use Rattle.truesheet.specs.Meaning.{exitLimit}
-use Rattle.refreshing.specs.Parts.{ExitsKept, CostFits, Way, WayCosts, Cheapest, ExitFilled, IsNear, Near, NearOut, ExitWritten, ExitsWritten}
+use Rattle.refreshing.specs.Parts.{ExitsKept, CostFits, distances, Way, WayCosts, Cheapest, ExitFilled, IsNear, Near, NearOut, ExitWritten, ExitsWritten}
 use Rattle.refreshing.proofs.Certified.{reached-is, reached-some}
 use Rattle.refreshing.proofs.Row.{kept-exit, cheapest-kept}
 
@@ -128,7 +128,7 @@ module _ {t : Tree} {r : Rows} {members : ℕ → ℕ} {distance : ℕ → Optio
 
 -- the cheapest way out fits a word
 pub exit-fits : {t : Tree} {r : Rows} {m k x cost node : ℕ} {members dist : List ℕ} → x < commands → NearOut t r m k members dist
-    → Cheapest t r (at members) (λ i. reached (at dist i)) x k cost node → CostFits cost
+    → Cheapest t r (at members) (distances dist) x k cost node → CostFits cost
 exit-fits {cost = cost} {members = members} {dist = dist} range out best =
     record {
       fits = λ c e.
@@ -144,7 +144,7 @@ exit-fits {cost = cost} {members = members} {dist = dist} range out best =
 
 -- an exit is written, word by word
 pub exit-written : {t : Tree} {m k x least node : ℕ} (u : ℕ) {members dist a b c : List ℕ}
-    → Cheapest t (rowsOf a) (at members) (λ i. reached (at dist i)) x k least node → Leaves a b (withExit (rowsOf a) m x (costOf u))
+    → Cheapest t (rowsOf a) (at members) (distances dist) x k least node → Leaves a b (withExit (rowsOf a) m x (costOf u))
     → costOf u ≡ reached least → Leaves b c (withLast (rowsOf b) m x (number node)) → ExitWritten t m k x members dist a c
 exit-written {m = m} {x = x} {least = least} {node = node} u {a = a} best first e second =
     let both = leaves-then (λ r. withLast r m x (number node)) first second in
@@ -263,3 +263,10 @@ module _ {t : Tree} {m k : ℕ} {members dist : List ℕ} where
               })
               (equal-or-not x j);
         }
+
+-- all commands
+pub exits-all : {t : Tree} {m k j : ℕ} {members dist sheet after : List ℕ} → ExitsWritten t m k j members dist sheet after → j ≤ commands
+    → commands ≤ j → ExitsWritten t m k commands members dist sheet after
+exits-all {j = j} done low high =
+    let same : j ≡ commands = omega arith in
+    rw same at done

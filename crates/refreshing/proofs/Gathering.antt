@@ -108,7 +108,14 @@ module _ {t : Tree} {m n k : ℕ} {members places : List ℕ} (g : Gathered t m 
             (equal-or-not i k);
       }
 
--- all nodes are passed: every node of the machine has its place
+-- all nodes are passed
+pub gathered-all : {t : Tree} {m n k : ℕ} {members places : List ℕ} → Gathered t m n k members places → n ≤ nodes → nodes ≤ n
+    → Gathered t m nodes k members places
+gathered-all {n = n} g low high =
+    let same : n ≡ nodes = omega arith in
+    rw same at g
+
+-- every node of the machine has its place
 pub gathered-members : {t : Tree} → Sound t → {m k : ℕ} {members places : List ℕ} → Gathered t m nodes k members places
     → Members t m k (at members) (at places)
 gathered-members sound {m} g =

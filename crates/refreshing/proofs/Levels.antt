@@ -31,6 +31,10 @@ module _ {t : Tree} (sound : Sound t) where
       let (k, small, way) = deep sound used in
       (omega (arith, level-node used own, level-deep sound own way), omega (arith, level-node used own, level-bound sound own))
 
+  -- no machine is at more than 8
+  pub level-most : (m : ℕ) → machineLevel t m ≤ levels
+  level-most m = ⊎-elim (λ off. rw off (omega arith)) (λ used. level-range (used .1) .1) (present (t .start m))
+
   -- a machine just below another is one level lower
   pub level-below : {n m b : ℕ} → t .owner n ≡ some m → t .below n ≡ some b → machineLevel t b ≡ suc (machineLevel t m)
   level-below {n} {m} {b} own down =
@@ -93,11 +97,11 @@ module _ {t : Tree} (sound : Sound t) {m p count : ℕ} (at : Climbed t m p coun
     climbed-holder = holder-range t sound p h held .1
 
     -- not all levels are passed
-    pub climbed-below : (0 < machineLevel t m) × (machineLevel t m ≤ levels) → count < levels
-    climbed-below (low, high) =
+    pub climbed-below : count < levels
+    climbed-below =
         let (q, own) = sound .holder-used p h held in
         let (f, used) = sound .owner-used h q own in
-        omega (arith, at .same, level-below sound own (sound .held-below p h held), level-range sound used)
+        omega (arith, at .same, level-below sound own (sound .held-below p h held), level-range sound used, level-most sound m)
 
     -- the machine of that node is next
     pub climbed-up : {w : ℕ} → w ≡ word (t .owner h) → Climbed t m w (count + 1)

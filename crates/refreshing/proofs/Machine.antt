@@ -1,6 +1,6 @@
 -- One machine filled: what the search found can be written, and once it is written the sheet is true with the machine's row filled.
 -- Assumes nothing.
-use mathlib.Core.Path.{_≡_, refl, sym, _∙_, ap}
+use mathlib.Core.Path.{_≡_, refl, sym, _∙_, ap, subst}
 use mathlib.Core.Bool.{true, false}
 use mathlib.Core.Option.{Option, none, some}
 use mathlib.Core.List.{List}
@@ -9,12 +9,12 @@ use native.Mathlib.Omega.{arith}
 use lib.ListN.{length}
 use Rattle.definitions.specs.Limits.{nodes, commands, absent, blank}
 use Rattle.definitions.specs.Tree.{Tree, Sound}
-use Rattle.definitions.specs.Book.{number}
+use Rattle.definitions.specs.Book.{word, number}
 use Rattle.definitions.specs.Sheet.{Rows, rowsOf}
 use Rattle.definitions.specs.Truth.{TrueRows, TrueSheet}
 use Rattle.definitions.proofs.Options.{none-some, some-same, put-same, put-other}
-use Rattle.definitions.proofs.Words.{under-in}
-use Rattle.search.specs.Search.{Certificate, Tables, reached, distanceOf, nameOf, moveOf}
+use Rattle.definitions.proofs.Words.{under-in, start-range}
+use Rattle.search.specs.Search.{Certificate, Searched, Tables, reached, distanceOf, nameOf, moveOf}
 use Rattle.search.specs.Parts.{at}
 use Rattle.sheet.specs.Fields.{Leaves, withMark}
 use Rattle.refreshing.specs.Parts.{Fills, ExitsKept, Members, Gathered, Tabled, TableRoom, Searches, FoundRoom}
@@ -44,7 +44,31 @@ search-ready sound rows used able g room table =
     moves-tables sound rows used (able .stale) (able .below) (gathered-members sound g) table (omega (arith, room .target-room, g .many))
     (omega (arith, room .price-room, g .many))
 
+-- the start node of a machine that can be filled, by its word
+pub start-told : {t : Tree} → Sound t → {m w : ℕ} {r : Rows} → Fillable t m r → w ≡ word (t .start m) → (t .start m ≡ some w) × (w < nodes)
+unfolding word
+start-told {t} sound {m} {w} able says =
+    let (s, used) = able .used in
+    let same : w ≡ s = says ∙ ap word used in
+    let is : t .start m ≡ some w = used ∙ ap {B = Option ℕ} some (sym same) in
+    (is, start-range t sound m w is .1)
+
 -- ---- after it
+
+-- the search is done
+pub searched-found : {t : Tree} {r : Rows} {m k w source : ℕ} {members places target price dist before by dist′ before′ by′ : List ℕ}
+    → Gathered t m nodes k members places → Tabled t r k (at members) (at places) target price → w ≡ word (t .start m) → source ≡ at places w
+    → Searched k source target price dist before by dist′ before′ by′ → Searches t r m k members places target price dist′ before′ by′
+unfolding word
+searched-found {t} {m = m} {k} {w} {source} {places = places} {target} {price} {dist′ = dist′} {before′} {by′} g table says here done =
+    record {
+      gathered = g;
+      tabled = table;
+      certificate = λ s used.
+          let same : source ≡ at places s = here ∙ ap (at places) (says ∙ ap word used) in
+          subst (λ (v : ℕ). Certificate k v (moveOf k target price) (distanceOf k dist′) (nameOf k before′) (nameOf k by′)) same
+          (done .certificate);
+    }
 
 module _ {t : Tree} (sound : Sound t) {r : Rows} {m s k : ℕ} (used : t .start m ≡ some s) {members places target price dist before by : List ℕ}
     (found : Searches t r m k members places target price dist before by) where

@@ -149,3 +149,10 @@ module _ {members dist before by : List ℕ} where
                 (equal-or-not j i);
           };
         }
+
+-- all places
+pub nodes-all : {i k : ℕ} {members dist before by sheet after : List ℕ} → NodesWritten i members dist before by sheet after → i ≤ k → k ≤ i
+    → NodesWritten k members dist before by sheet after
+nodes-all {i} {k} done low high =
+    let same : i ≡ k = omega arith in
+    rw same at done

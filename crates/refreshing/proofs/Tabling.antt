@@ -73,6 +73,23 @@ module _ {t : Tree} (sound : Sound t) (r : Rows) (places : List ℕ) (n x : ℕ)
         rw (move-by t r n x has exit)
         (entry-some v (e + w % costs) (omega arith) ∙ ap (λ (u : ℕ). some (record { node = u; cost = e + w % costs })) at-v)
 
+-- a node with a place is in range
+pub placing-range : {t : Tree} → Sound t → {places : List ℕ} {n : ℕ} → Placing t places n → n < nodes
+placing-range sound {n = n} placing = let (m, own) = placing .used in sound .node-range n m own
+
+-- the nodes at the places have theirs
+pub gathered-placing : {t : Tree} → Sound t → {m k i n : ℕ} {members places : List ℕ} → Gathered t m nodes k members places → i < k
+    → n ≡ at members i → Placing t places n
+gathered-placing {t} sound {m} {i = i} g small e =
+    let own : t .owner _ ≡ some m = ap (t .owner) e ∙ g .owned i small in
+    record {
+      room = g .places-room;
+      used = (m, own);
+      small = λ v same.
+          let own-v = same ∙ own in
+          omega (arith, g .found v (sound .node-range v m own-v) own-v .0, g .many);
+    }
+
 -- ---- entry by entry
 
 -- the first j entries have the moves of the nodes at their places

@@ -139,6 +139,10 @@ pub record NodesWritten (i : ℕ) (members dist before by sheet after : List ℕ
 
 -- ---- the exits of one machine
 
+-- the distances that a list's words say
+abbrev pub distances : List ℕ → ℕ → Option ℕ
+distances dist i = reached (at dist i)
+
 -- node n, at this distance from the start, leaves its machine by x at cost d
 pub record Way (t : Tree) (r : Rows) (n : ℕ) (distance : Option ℕ) (x d : ℕ) : Type 0 where
   pub node-cost : ℕ
@@ -195,7 +199,7 @@ pub record NearOut (t : Tree) (r : Rows) (m k : ℕ) (members dist : List ℕ) :
 pub record ExitWritten (t : Tree) (m k x : ℕ) (members dist sheet after : List ℕ) : Type 0 where
   pub least : ℕ
   pub node : ℕ
-  pub cheapest : Cheapest t (rowsOf sheet) (at members) (λ i. reached (at dist i)) x k least node
+  pub cheapest : Cheapest t (rowsOf sheet) (at members) (distances dist) x k least node
   pub leaves : Leaves sheet after (withLast (withExit (rowsOf sheet) m x (reached least)) m x (number node))
 
 -- the exits for the first j commands are written, and nothing else is touched
@@ -208,4 +212,4 @@ pub record ExitsWritten (t : Tree) (m k j : ℕ) (members dist sheet after : Lis
   pub exit : ExitsKept m (rowsOf sheet) (rowsOf after)
   pub last : (p x : ℕ) → (p ≡ m → ⊥) → rowsOf after .last p x ≡ rowsOf sheet .last p x
   pub each : (x : ℕ) → x < j
-      → ExitFilled t (rowsOf sheet) (at members) (λ i. reached (at dist i)) k x (rowsOf after .exit m x) (rowsOf after .last m x)
+      → ExitFilled t (rowsOf sheet) (at members) (distances dist) k x (rowsOf after .exit m x) (rowsOf after .last m x)
