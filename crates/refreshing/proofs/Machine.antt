@@ -58,11 +58,12 @@ start-told {t} sound {m} {w} able says =
 -- the search is done
 pub searched-found : {t : Tree} {r : Rows} {m k w source : ℕ} {members places target price dist before by dist′ before′ by′ : List ℕ}
     → Gathered t m nodes k members places → Tabled t r k (at members) (at places) target price → w ≡ word (t .start m) → source ≡ at places w
-    → Searched k source target price dist before by dist′ before′ by′ → Searches t r m k members places target price dist′ before′ by′
+    → FoundRoom dist′ before′ by′ → Searched k source target price dist before by dist′ before′ by′ → Searches t r m k members places target price dist′ before′ by′
 unfolding word
-searched-found {t} {m = m} {k} {w} {source} {places = places} {target} {price} {dist′ = dist′} {before′} {by′} g table says here done =
+searched-found {t} {m = m} {k} {w} {source} {places = places} {target} {price} {dist′ = dist′} {before′} {by′} g table says here room done =
     record {
       gathered = g;
+      room = room;
       tabled = table;
       certificate = λ s used.
           let same : source ≡ at places s = here ∙ ap (at places) (says ∙ ap word used) in
@@ -98,11 +99,11 @@ module _ {t : Tree} (sound : Sound t) {r : Rows} {m s k : ℕ} (used : t .start 
       record { near = λ c e. omega (arith, cert .bound i c (distance-at k dist small ∙ e), group .small) }
 
   -- what is found can be written
-  pub searches-writable : FoundRoom dist before by → Writable k members dist before by
-  searches-writable room =
+  pub searches-writable : Writable k members dist before by
+  searches-writable =
       record {
         members-room = found .gathered .members-room;
-        room = room;
+        room = found .room;
         small = group .small;
         inside = member-range;
         apart = λ i j low high same. sym (group .back i low) ∙ ap (at places) same ∙ group .back j high;
@@ -117,12 +118,12 @@ module _ {t : Tree} (sound : Sound t) {r : Rows} {m s k : ℕ} (used : t .start 
 
   module _ (rows : TrueRows t r) (able : Fillable t m r) where
     -- the nodes are near, and their own exits bounded, whatever the machine's own row says
-    pub searches-near : FoundRoom dist before by → {q : Rows} → ExitsKept m r q → NearOut t q m k members dist
-    searches-near room kept =
+    pub searches-near : {q : Rows} → ExitsKept m r q → NearOut t q m k members dist
+    searches-near kept =
         near-kept sound kept (record {
           reach = record {
             members-room = found .gathered .members-room;
-            dist-room = room .dist-room;
+            dist-room = found .room .dist-room;
             small = group .small;
             inside = member-range;
             near = distance-near;

@@ -79,18 +79,19 @@ pub record TableRoom (target price : List ℕ) : Type 0 where
 
 -- ---- what the search finds
 
--- the nodes of machine m are gathered, and the search over them is done
-pub record Searches (t : Tree) (r : Rows) (m k : ℕ) (members places target price dist before by : List ℕ) : Type 0 where
-  pub gathered : Gathered t m nodes k members places
-  pub tabled : Tabled t r k (at members) (at places) target price
-  pub certificate : (s : ℕ) → t .start m ≡ some s
-      → Certificate k (at places s) (moveOf k target price) (distanceOf k dist) (nameOf k before) (nameOf k by)
-
 -- the lists for what is found have room for every node
 pub record FoundRoom (dist before by : List ℕ) : Type 0 where
   pub dist-room : length dist ≡ nodes
   pub before-room : length before ≡ nodes
   pub by-room : length by ≡ nodes
+
+-- the nodes of machine m are gathered, and the search over them is done
+pub record Searches (t : Tree) (r : Rows) (m k : ℕ) (members places target price dist before by : List ℕ) : Type 0 where
+  pub gathered : Gathered t m nodes k members places
+  pub room : FoundRoom dist before by
+  pub tabled : Tabled t r k (at members) (at places) target price
+  pub certificate : (s : ℕ) → t .start m ≡ some s
+      → Certificate k (at places s) (moveOf k target price) (distanceOf k dist) (nameOf k before) (nameOf k by)
 
 -- ---- the nodes' rows
 

@@ -61,7 +61,11 @@ same-length-7 c = search needs
 
 returns : tie.Need-returns
 returns c =
-    searched-found (c .before .before .before .before .before .before .before .before .before .before .before .before .before .before .before .before .before .before .before .before .before .before .before .before .before .before .before .before .gather .ensures) (c .before .before .before .before .before .before .before .before .before .before .before .before .before .before .before .before .before .before .before .tables .ensures) (c .before .before .before .before .before .before .before .before .before .before .before .before .before .start .ensures) (c .before .before .before .before .before .before .before .before .before .before .before .before .word .ensures) (c .before .before .before .before .before .before .search .ensures)
+    let kept = c .before .before .before .before .before .before .search .kept .1 .1 .1 .1 in
+    let room = c .before .before .before .before .before .before .before .before .before .before .before .before .before .before .before .before .before .before .before .before .before .before .before .before .before .before .before .before .before .before .before .before .before .before .before .before .before .before .before .before .pre .7 in
+    searched-found (c .before .before .before .before .before .before .before .before .before .before .before .before .before .before .before .before .before .before .before .before .before .before .before .before .before .before .before .before .gather .ensures) (c .before .before .before .before .before .before .before .before .before .before .before .before .before .before .before .before .before .before .before .tables .ensures) (c .before .before .before .before .before .before .before .before .before .before .before .before .before .start .ensures) (c .before .before .before .before .before .before .before .before .before .before .before .before .word .ensures)
+    (record { dist-room = omega (arith, kept .0, room); before-room = omega (arith, kept .1 .0, room); by-room = omega (arith, kept .1 .1 .0, room) })
+    (c .before .before .before .before .before .before .search .ensures)
 
 pub find-spec : {M : Type 1} → statement M
 find-spec =
