@@ -193,7 +193,14 @@ fn write_nodes(sheet: &mut [u32], k: u32, members: &[u32], dist: &[u64], before:
     let mut i = 0u32;
     while i < k {
         let d = dist[i as usize];
-        write_node(sheet, members, word(members, i), d, word(before, i), word(by, i));
+        write_node(
+            sheet,
+            members,
+            word(members, i),
+            d,
+            word(before, i),
+            word(by, i),
+        );
         i += 1;
     }
 }
@@ -238,7 +245,15 @@ fn cheapest(book: &[u32], sheet: &[u32], k: u32, members: &[u32], dist: &[u64], 
 }
 
 // Writes the exit of machine m for command x.
-fn write_exit(book: &[u32], sheet: &mut [u32], m: u32, k: u32, members: &[u32], dist: &[u64], x: u32)
+fn write_exit(
+    book: &[u32],
+    sheet: &mut [u32],
+    m: u32,
+    k: u32,
+    members: &[u32],
+    dist: &[u64],
+    x: u32,
+)
     requires { ⌜ Holding (now book) (now sheet) × (m < machines) × NearOut (treeOf (now book)) (rowsOf (now sheet)) m k (now members) (now dist)
         × (x < commands) ⌝ }
     ensures { λ _. ⌜ ExitWritten (treeOf (now (book .entry))) m k x (now (members .entry)) (now (dist .entry))
@@ -348,7 +363,14 @@ fn fill_if_stale(
 }
 
 // Fills the stale machines of level l; nothing below that level is stale.
-fn fill_level(book: &[u32], sheet: &mut [u32], list: &[u32], l: u32, target: &mut [u32], price: &mut [u64])
+fn fill_level(
+    book: &[u32],
+    sheet: &mut [u32],
+    list: &[u32],
+    l: u32,
+    target: &mut [u32],
+    price: &mut [u64],
+)
     requires { ⌜ WellFormed (now book) × TrueSheet (treeOf (now book)) (now sheet) × MachineLevels (treeOf (now book)) machines (now list)
         × FreshBelow (treeOf (now book)) l (rowsOf (now sheet)) × (0 < l) × TableRoom (now target) (now price) ⌝ }
     ensures { λ _. ⌜ FilledBelow (treeOf (now (book .entry))) (l - 1) (now (sheet .entry)) (now (sheet .exit)) ⌝ }

@@ -65,8 +65,8 @@ loop-again c =
     (sym p) (sym q) b in (
       omega arith,
       ⊎-elim (λ w. to _ _ (w .1) (w .2 ∙ c .before .before .before .word .ensures) (cheapest-better (l .loop .inv .1) costs (w .0 .taken)))
-      (λ w. to _ _ (w .1) (w .2) (cheapest-stays (l .loop .inv .1) costs (w .0 .left)))
-      (c .if1 .came),
+          (λ w. to _ _ (w .1) (w .2) (cheapest-stays (l .loop .inv .1) costs (w .0 .left)))
+          (c .if1 .came),
     )
 
 returns : tie.Need-returns Inv-loop μ-loop

@@ -30,7 +30,7 @@ fill-machine-requires c κs =
       p .1,
       p .4,
       step-fillable (p .1) (p .0 .sound) (c .before .before .before .before .stale .ensures) (c .before .before .before .if2 .left) (p .3) (c .before .before .before .before .before .before .before .word .ensures ∙ p .2 .at (e .args .m) (p .4))
-      (c .before .before .before .before .before .before .if1 .left),
+          (c .before .before .before .before .before .before .if1 .left),
       p .5,
     )
 

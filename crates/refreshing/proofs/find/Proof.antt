@@ -32,9 +32,9 @@ search-requires c κs =
     let g = c .before .before .before .before .before .before .before .before .before .before .before .before .before .before .before .before .before .before .before .before .before .gather .ensures in
     let room = p .7 in (
       rw (c .before .before .before .before .before .word .ensures)
-      (search-ready (p .0 .sound) (p .1 .rows) (start-told (p .0 .sound) (p .3) (c .before .before .before .before .before .before .start .ensures) .0) (p .3) g
-      (record { target-room = omega (arith, tabled .kept .1 .1 .1 .1 .1 .1 .0, p .6); price-room = omega (arith, tabled .kept .1 .1 .1 .1 .1 .1 .1 .0, p .6) })
-      (tabled .ensures)),
+          (search-ready (p .0 .sound) (p .1 .rows) (start-told (p .0 .sound) (p .3) (c .before .before .before .before .before .before .start .ensures) .0) (p .3) g
+          (record { target-room = omega (arith, tabled .kept .1 .1 .1 .1 .1 .1 .0, p .6); price-room = omega (arith, tabled .kept .1 .1 .1 .1 .1 .1 .1 .0, p .6) })
+          (tabled .ensures)),
       record { dist-room = omega (arith, g .many, room); before-room = omega (arith, g .many, room); by-room = omega (arith, g .many, room) },
     )
 

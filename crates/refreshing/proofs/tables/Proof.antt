@@ -66,7 +66,7 @@ loop-again c =
     let a = e .args in (
       omega arith,
       tabled-more (treeOf (now (a .book))) (rowsOf (now (a .sheet))) (at (now (a .members))) (at (now (a .places))) (c .table-entry .result .target)
-      (c .table-entry .result .price) (l .loop .inv .1) (omega (arith, e .pre .1 .many)) (rw (c .before .word .ensures) at (c .table-entry .ensures)),
+          (c .table-entry .result .price) (l .loop .inv .1) (omega (arith, e .pre .1 .many)) (rw (c .before .word .ensures) at (c .table-entry .ensures)),
     )
 
 same-length : tie.Need-same-length Inv-loop μ-loop
