@@ -1,7 +1,7 @@
 // Refresh (document 01, "Loading a stream"): every stale row is filled and is stale no more, the lowest machines first. The nodes of one
 // machine stand at places 0 to k - 1, and the least costs over them are one search's.
 ghost use mathlib.Core.Path.{_≡_};
-ghost use Prim.Native.Nat.{_+_, _-_, _≤_, _<_};
+ghost use Prim.Native.Nat.{ℕ, _+_, _-_, _≤_, _<_};
 ghost use lib.ListN.{length, getD};
 ghost use Rattle.definitions.specs.Limits.{machines, nodes, commands, sheetLength};
 ghost use Rattle.definitions.specs.Tree.{Tree};
@@ -24,17 +24,18 @@ use truesheet::OwnExit;
 const LEVELS: u32 = 8;
 
 // An entry of the tables: the place where a move leads, ABSENT where there is no move, and what it costs.
-pub struct Entry {
-    pub target: u32,
-    pub price: u64,
+struct Entry {
+    target: u32,
+    price: u64,
 }
 
 // A way out of a machine: what it costs, UNREACHED where there is none, and the node where it ends.
-pub struct WayOut {
-    pub cost: u64,
-    pub node: u32,
+struct WayOut {
+    cost: u64,
+    node: u32,
 }
 
+// The number in 64 bits.
 fn wide(x: u32) -> u64
     ensures { λ r. ⌜ r ≡ x ⌝ }
 {
@@ -117,14 +118,13 @@ fn table_entry(book: &[u32], sheet: &[u32], places: &[u32], n: u32, x: u32) -> E
 fn tables(
     book: &[u32],
     sheet: &[u32],
-    m: u32,
     k: u32,
     members: &[u32],
     places: &[u32],
     target: &mut [u32],
     price: &mut [u64],
 )
-    requires { ⌜ Holding (now book) (now sheet) × Gathered (treeOf (now book)) m nodes k (now members) (now places)
+    requires { ⌜ Holding (now book) (now sheet) × ((m : ℕ) × Gathered (treeOf (now book)) m nodes k (now members) (now places))
         × TableRoom (now target) (now price) ⌝ }
     ensures { λ _. ⌜ Tabled (treeOf (now (book .entry))) (rowsOf (now (sheet .entry))) k (at (now (members .entry)))
         (at (now (places .entry))) (now (target .exit)) (now (price .exit)) ⌝ }
@@ -158,7 +158,7 @@ fn find(
         (now (target .exit)) (now (price .exit)) (now (dist .exit)) (now (before .exit)) (now (by .exit)) ⌝ }
 {
     let k = gather(book, m, members, places);
-    tables(book, sheet, m, k, members, places, target, price);
+    tables(book, sheet, k, members, places, target, price);
     let source = word(places, book::start(book, m));
     search::search(k as usize, source as usize, target, price, dist, before, by);
     k

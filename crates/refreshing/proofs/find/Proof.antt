@@ -10,7 +10,11 @@ gather-requires : tie.Need-gather-requires
 gather-requires c κs = search needs
 
 tables-requires : tie.Need-tables-requires
-tables-requires c κs = search needs
+tables-requires c κs =
+    let at-gather = c .before .before .before .before .before .before .before .before in
+    let entry = at-gather .before .before .before .before .before .before .before .before .before .before .before .before in
+    let p = entry .pre in
+    (record { well-formed = p .0; long = p .1 .length }, (entry .args .m, at-gather .gather .ensures), p .6)
 
 start-requires : tie.Need-start-requires
 start-requires c κs = search needs
@@ -38,7 +42,7 @@ search-requires c κs =
     let entry = at-gather .before .before .before .before .before .before .before .before .before .before .before .before in
     let p = entry .pre in
     let tabled = at-tables .tables in
-    let kept = tabled .kept .1 .1 .1 .1 .1 .1 in
+    let kept = tabled .kept .1 .1 .1 .1 .1 in
     let g = at-gather .gather .ensures in
     let room = p .7 in (
       rw (at-word .word .ensures)

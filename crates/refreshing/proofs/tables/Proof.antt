@@ -12,11 +12,11 @@ use Rattle.refreshing.proofs.tables.Statement.{statement}
 use Rattle.refreshing.proofs.tables.Tie as tie
 
 abbrev Inv-loop : tie.InvT-loop
-Inv-loop book sheet m k members places target₀ price₀ j₀ target price j =
+Inv-loop book sheet k members places target₀ price₀ j₀ target price j =
     (j ≤ commands * k) × TabledTo (treeOf book) (rowsOf sheet) (at members) (at places) j target price
 
 abbrev μ-loop : tie.MeasureT-loop
-μ-loop book sheet m k members places target₀ price₀ j₀ target price j = commands * k - j
+μ-loop book sheet k members places target₀ price₀ j₀ target price j = commands * k - j
 
 loop-holds : tie.Need-loop-holds Inv-loop μ-loop
 loop-holds c =
@@ -27,17 +27,17 @@ loop-holds c =
 mul-loop : tie.Need-mul-loop Inv-loop μ-loop
 mul-loop c =
     let entry = c .before .before .before .before .before .before .before in
-    omega (arith, entry .pre .1 .many)
+    omega (arith, entry .pre .1 .1 .many)
 
 word-requires : tie.Need-word-requires Inv-loop μ-loop
 word-requires c κs =
     let entry = c .before .before .before .before .before .before .before .before in
-    omega (arith, entry .pre .1 .many, entry .pre .1 .members-room)
+    omega (arith, entry .pre .1 .1 .many, entry .pre .1 .1 .members-room)
 
 table-entry-requires : tie.Need-table-entry-requires Inv-loop μ-loop
 table-entry-requires c κs =
     let e = c .before .before .before .before .before .before .before .before .before in
-    (e .pre .0, gathered-placing (e .pre .0 .well-formed .sound) (e .pre .1) (omega arith) (c .word .ensures), omega arith)
+    (e .pre .0, gathered-placing (e .pre .0 .well-formed .sound) (e .pre .1 .1) (omega arith) (c .word .ensures), omega arith)
 
 cast-target : tie.Need-cast-target Inv-loop μ-loop
 cast-target c = omega arith
@@ -49,7 +49,7 @@ slice-write-target : tie.Need-slice-write-target Inv-loop μ-loop
 slice-write-target c =
     let turn = c .before .before .before in
     let entry = turn .before .before .before .before .before .before .before in
-    omega (arith, turn .loop .inv .1 .room .target-room, entry .pre .1 .many)
+    omega (arith, turn .loop .inv .1 .room .target-room, entry .pre .1 .1 .many)
 
 cast-price : tie.Need-cast-price Inv-loop μ-loop
 cast-price c = omega arith
@@ -61,12 +61,12 @@ slice-write-price : tie.Need-slice-write-price Inv-loop μ-loop
 slice-write-price c =
     let turn = c .before .before .before in
     let entry = turn .before .before .before .before .before .before .before in
-    omega (arith, turn .loop .inv .1 .room .price-room, entry .pre .1 .many)
+    omega (arith, turn .loop .inv .1 .room .price-room, entry .pre .1 .1 .many)
 
 add-j : tie.Need-add-j Inv-loop μ-loop
 add-j c =
     let entry = c .before .before .before .before .before .before .before .before .before .before in
-    omega (arith, entry .pre .1 .many)
+    omega (arith, entry .pre .1 .1 .many)
 
 loop-less : tie.Need-loop-less Inv-loop μ-loop
 loop-less c = omega arith
@@ -79,7 +79,7 @@ loop-again c =
     let a = e .args in (
       omega arith,
       tabled-more (treeOf (now (a .book))) (rowsOf (now (a .sheet))) (at (now (a .members))) (at (now (a .places)))
-          (c .table-entry .result .target) (c .table-entry .result .price) (l .loop .inv .1) (omega (arith, e .pre .1 .many))
+          (c .table-entry .result .target) (c .table-entry .result .price) (l .loop .inv .1) (omega (arith, e .pre .1 .1 .many))
           (rw (at-word .word .ensures) at (c .table-entry .ensures)),
     )
 
