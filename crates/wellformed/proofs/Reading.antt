@@ -16,7 +16,7 @@ use Rattle.definitions.proofs.Lists.{no-value}
 use Rattle.wellformed.proofs.Fits.{Within, Read}
 
 -- what is read under a limit is read of a number under the limit
-under-limit : {A : Type 0} (limit i : ℕ) (o : Option A) {a : A} → under limit i o ≡ some a → (i < limit) × (o ≡ some a)
+pub under-limit : {A : Type 0} (limit i : ℕ) (o : Option A) {a : A} → under limit i o ≡ some a → (i < limit) × (o ≡ some a)
 unfolding under
 under-limit {A} limit i o {a} = go (ltb i limit) refl
   where
@@ -25,7 +25,7 @@ under-limit {A} limit i o {a} = go (ltb i limit) refl
     go false e f = absurd (none-some refl f)
 
 -- what is told unless a word is z, is told where the word is not z
-told : {A : Type 0} (w z : ℕ) (v : A) {a : A} → cond (eqb w z) none (some v) ≡ some a → (v ≡ a) × (w ≡ z → ⊥)
+pub told : {A : Type 0} (w z : ℕ) (v : A) {a : A} → cond (eqb w z) none (some v) ≡ some a → (v ≡ a) × (w ≡ z → ⊥)
 told {A} w z v {a} = go (eqb w z) refl
   where
     go : (b : Bool) → eqb w z ≡ b → cond b none (some v) ≡ some a → (v ≡ a) × (w ≡ z → ⊥)
@@ -33,7 +33,7 @@ told {A} w z v {a} = go (eqb w z) refl
     go false e f = (some-same refl f, eqb-false w z e)
 
 -- a number read under a limit
-number-read : (limit i w : ℕ) {n : ℕ} → under limit i (number w) ≡ some n → (i < limit) × (n ≡ absent → ⊥)
+pub number-read : (limit i w : ℕ) {n : ℕ} → under limit i (number w) ≡ some n → (i < limit) × (n ≡ absent → ⊥)
 unfolding number
 number-read limit i w e =
     let (l, f) = under-limit limit i (number w) e in

@@ -1,0 +1,6 @@
+pub mod Reading
+pub mod Fits
+pub mod Exits
+pub mod Machines
+pub mod Nodes
+pub mod Chains
