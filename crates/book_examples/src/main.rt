@@ -156,7 +156,7 @@ fn main() {
     let mut out = [255u8; 72];
     show_write(b"write: ", &book, &mut out, 72);
     dump(&out);
-    show_write(b"write into 70: ", &book, &mut out, 70);
+    show_write(b"\nwrite into 70: ", &book, &mut out, 70);
     show_write(b"write into 69: ", &book, &mut out, 69);
     show_choice(b"choose cheaper: ", &book, 0, 2, b"\x02", b"\x00\x02\x01");
     show_choice(b"choose tie: ", &book, 0, 2, b"\x02\x00", b"\x02\x01");
