@@ -1,4 +1,4 @@
--- `opening::mark_machines` meets its contract: the rows of the machines passed are marked and blank. Assumes nothing.
+-- `opening::stale_machines` meets its contract: the rows of the machines passed are marked and blank. Assumes nothing.
 use mathlib.Core.Path.{_≡_, _∙_, ap}
 use Prim.Native.Nat.{_+_, _*_, _-_, _≤_}
 use native.Mathlib.Omega.{arith}
@@ -11,8 +11,8 @@ use Rattle.definitions.specs.Open.{openRows}
 use Rattle.opening.specs.Writes.{Upto, blankMachine}
 use Rattle.opening.proofs.Filling.{upto-none, upto-at, upto-as}
 use Rattle.opening.proofs.Blank.{machine-blanked}
-use Rattle.opening.proofs.mark_machines.Statement.{statement}
-use Rattle.opening.proofs.mark_machines.Tie as tie
+use Rattle.opening.proofs.stale_machines.Statement.{statement}
+use Rattle.opening.proofs.stale_machines.Tie as tie
 
 abbrev Inv-loop : tie.InvT-loop
 Inv-loop book sheet₀ m₀ sheet m =
@@ -28,8 +28,8 @@ loop-holds c =
       upto-none sheetLength (encodeRows (openRows (treeOf (now (start .args .book))))) (now (start .args .sheet)) (start .pre .1),
     )
 
-mark-requires : tie.Need-mark-requires Inv-loop μ-loop
-mark-requires c κs = search needs
+stale-word-requires : tie.Need-stale-word-requires Inv-loop μ-loop
+stale-word-requires c κs = search needs
 
 blank-machine-requires : tie.Need-blank-machine-requires Inv-loop μ-loop
 blank-machine-requires c κs = omega arith
@@ -44,10 +44,10 @@ loop-again : tie.Need-loop-again Inv-loop μ-loop
 loop-again c =
     let loop = c .before .before .before .before .before .before .loop in
     let book = now (c .before .before .before .before .before .before .before .before .before .args .book) in
-    let mark = c .before .before .before .mark in (
+    let stale = c .before .before .before .stale-word in (
       omega arith,
       upto-as sheetLength (encodeRows (openRows (treeOf book))) ((loop .m + 1) * machineRowLength)
-          (c .before .before .blank-machine .ensures ∙ ap (blankMachine (loop .sheet) (loop .m)) (mark .ensures))
+          (c .before .before .blank-machine .ensures ∙ ap (blankMachine (loop .sheet) (loop .m)) (stale .ensures))
           (machine-blanked (treeOf book) (loop .sheet) (loop .m) (omega arith) (loop .inv .1)),
     )
 
@@ -61,14 +61,14 @@ returns c =
     let all : loop .m * machineRowLength ≡ nodeRowBase = omega arith in
     upto-at sheetLength goal (loop .sheet) all (loop .inv .1)
 
-pub mark-machines-spec : {M : Type 1} → statement M
-mark-machines-spec =
+pub stale-machines-spec : {M : Type 1} → statement M
+stale-machines-spec =
     tie.close
     (tie.spec
     Inv-loop
     μ-loop
     loop-holds
-    mark-requires
+    stale-word-requires
     blank-machine-requires
     add-m
     loop-less
