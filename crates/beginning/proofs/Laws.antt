@@ -10,10 +10,9 @@ use lib.ListN.{length, getD, set, replicate, length-set, getD-replicate}
 use lib.Seq.{getD-set-same, getD-set-other}
 use borrow.Author.Tests.{eq-eqb, ne-eqb}
 use Rattle.definitions.specs.Limits.{machines, nodes, sheetLength, absent}
-use Rattle.definitions.specs.Tree.{Tree}
 use Rattle.definitions.specs.Book.{number, encode, treeOf}
 use Rattle.definitions.specs.Sheet.{Rows, machineRowLength, machineRowWord, encodeRows, rowsOf}
-use Rattle.definitions.specs.Stream as stream
+use Rattle.definitions.specs.Stream.{Edit}
 use Rattle.definitions.specs.Edit.{single, withStale, edited, touches, editedRows}
 use Rattle.definitions.proofs.Options.{equal-or-not}
 use Rattle.definitions.proofs.Words.{same-rows, encode-treeOf, marks-words}
@@ -22,6 +21,7 @@ use Rattle.book.proofs.Stores.{holds-then}
 use Rattle.sheet.specs.Fields.{Marks, Leaves, withMark}
 use Rattle.clearing.specs.Gone.{chosen, upTo, NodesGone, MachinesGone, withoutMachines, withoutMachineRows}
 use Rattle.clearing.proofs.Laws.{left-then, nodes-all, machines-all}
+use Rattle.editing.specs.Edited.{Edited}
 use Rattle.beginning.specs.Empty.{emptyTree, emptyRows, Emptied}
 
 -- ---- marks
@@ -78,16 +78,6 @@ module _ (m n : ℕ) (hm : m < machines) (hn : n < nodes) where
   unfolding single number
   one-tree top = rw (ne-eqb n absent (omega arith), ne-eqb m absent (omega arith))
 
-  pub begun-book : {top : ℕ} {b b₁ b₂ b₃ s : List ℕ} → Emptied top b s → Holds b₁ (withRoot (treeOf b) m)
-      → Holds b₂ (withStartOf (treeOf b₁) m (number n)) → Holds b₃ (withOwner (treeOf b₂) n (number m))
-      → (t : Tree) → b₃ ≡ encode (edited t (stream.begin m n))
-  unfolding edited
-  begun-book {top} {b₃ = b₃} emptied root start owner t =
-      let held =
-      holds-then (λ u. withOwner u n (number m)) (holds-then (λ u. withStartOf u m (number n)) (holds-then (λ u. withRoot u m) (emptied .book) root) start)
-      owner in
-      sym (encode-treeOf b₃ (held .length)) ∙ ap encode (held .tree ∙ one-tree top)
-
   -- the mark makes its rows
   one-row : (r : Rows) → withMark emptyRows m true ≡ withStale (single m n) (λ p. eqb p m) r
   unfolding single withStale
@@ -99,9 +89,19 @@ module _ (m n : ℕ) (hm : m < machines) (hn : n < nodes) where
       (λ k. ⊎-elim (λ e. rw (eq-eqb k n e, eq-eqb m m refl)) (λ ne. rw (ne-eqb k n ne)) (equal-or-not k n))
       (λ k. ⊎-elim (λ e. rw (eq-eqb k n e, eq-eqb m m refl)) (λ ne. rw (ne-eqb k n ne)) (equal-or-not k n))
 
-  pub begun-sheet : {top : ℕ} {b s s₁ : List ℕ} → Emptied top b s → Leaves s s₁ (withMark (rowsOf s) m true)
-      → (t : Tree) (r : Rows) → s₁ ≡ encodeRows (editedRows t (stream.begin m n) r)
-  unfolding editedRows edited touches
-  begun-sheet {s₁ = s₁} emptied left t r =
-      sym (marks-words s₁ (left .length) (left .marks (emptied .marks)))
-      ∙ ap encodeRows (left .rows ∙ ap (λ q. withMark q m true) (emptied .rows) ∙ one-row r)
+  -- what the stores leave is what the edit leaves, whatever stood there
+  pub begin-done : (b s : List ℕ) {top : ℕ} {b₁ b₂ b₃ b₄ s₁ s₂ : List ℕ} → Emptied top b₁ s₁ → Holds b₂ (withRoot (treeOf b₁) m)
+      → Holds b₃ (withStartOf (treeOf b₂) m (number n)) → Holds b₄ (withOwner (treeOf b₃) n (number m))
+      → Leaves s₁ s₂ (withMark (rowsOf s₁) m true) → Edited b s (Edit.begin m n) b₄ s₂
+  unfolding edited editedRows touches
+  begin-done b s {top} {b₄ = b₄} {s₂ = s₂} emptied root start owner mark =
+      let held =
+      holds-then (λ t. withOwner t n (number m))
+      (holds-then (λ t. withStartOf t m (number n)) (holds-then (λ t. withRoot t m) (emptied .book) root) start) owner in
+      let rows : rowsOf s₂ ≡ withStale (single m n) (λ p. eqb p m) (rowsOf s) =
+      mark .rows ∙ ap (λ r. withMark r m true) (emptied .rows) ∙ one-row (rowsOf s) in
+      record {
+        book = sym (encode-treeOf b₄ (held .length)) ∙ ap encode (held .tree ∙ one-tree top);
+        sheet = sym (marks-words s₂ (mark .length) (mark .marks (emptied .marks))) ∙ ap encodeRows rows;
+        rows = rows;
+      }

@@ -3,12 +3,11 @@ ghost use mathlib.Core.Path.{_≡_};
 ghost use Prim.Native.Nat.{_<_};
 ghost use lib.ListN.{length};
 ghost use Rattle.definitions.specs.Limits.{machines, nodes, sheetLength};
-ghost use Rattle.definitions.specs.Book.{treeOf, encode};
-ghost use Rattle.definitions.specs.Sheet.{rowsOf, encodeRows};
-ghost use Rattle.definitions.specs.Stream.{begin};
-ghost use Rattle.definitions.specs.Edit.{edited, editedRows};
+ghost use Rattle.definitions.specs.Book.{treeOf};
+ghost use Rattle.definitions.specs.Stream.{Edit};
 ghost use Rattle.sheet.specs.Fields.{Marks};
-ghost use Rattle.clearing.specs.Gone.{Ready};
+ghost use Rattle.clearing.specs.Gone.{Sized};
+ghost use Rattle.editing.specs.Edited.{Edited};
 ghost use Rattle.beginning.specs.Empty.{Emptied};
 
 // Makes every mark 0, whatever words the marks were.
@@ -25,7 +24,7 @@ fn clear_marks(sheet: &mut [u32])
 
 // Leaves every record, every row and every mark as those of unused numbers are; the root's word stays.
 fn empty(book: &mut [u32], sheet: &mut [u32])
-    requires { ⌜ Ready (now book) (now sheet) ⌝ }
+    requires { ⌜ Sized (now book) (now sheet) ⌝ }
     ensures { λ r. ⌜ Emptied (treeOf (now (book .entry)) .root) (now (book .exit)) (now (sheet .exit)) ⌝ }
 {
     clear_marks(sheet);
@@ -35,10 +34,10 @@ fn empty(book: &mut [u32], sheet: &mut [u32])
     clearing::clear_machines(book, sheet, &every_machine);
 }
 
-// Makes the book machine m alone, as root, with its start node n, and the sheet blank with m marked, whatever stood there.
+// Begin: makes the book machine m alone, as root, with its start node n, and the sheet blank with m marked, whatever stood there.
 pub fn do_begin(book: &mut [u32], sheet: &mut [u32], m: u32, n: u32)
-    requires { ⌜ Ready (now book) (now sheet) × (m < machines) × (n < nodes) ⌝ }
-    ensures { λ r. ⌜ (now (book .exit) ≡ encode (edited (treeOf (now (book .entry))) (begin m n))) × (now (sheet .exit) ≡ encodeRows (editedRows (treeOf (now (book .entry))) (begin m n) (rowsOf (now (sheet .entry))))) ⌝ }
+    requires { ⌜ Sized (now book) (now sheet) × (m < machines) × (n < nodes) ⌝ }
+    ensures { λ r. ⌜ Edited (now (book .entry)) (now (sheet .entry)) (Edit.begin m n) (now (book .exit)) (now (sheet .exit)) ⌝ }
 {
     empty(book, sheet);
     book::set_root(book, m);

@@ -16,12 +16,13 @@ use Rattle.definitions.specs.Book.{number, transitionOf, under, nodeWord, machi
 use Rattle.definitions.specs.Sheet.{Rows, costOf, machineRowWord, nodeRowWord, rowsOf}
 use Rattle.definitions.proofs.Options.{equal-or-not}
 use Rattle.definitions.proofs.Words.{same-tree, same-rows}
-use Rattle.book.specs.Fields.{withoutNode, withoutMachine}
+use Rattle.book.specs.Fields.{withoutNode}
 use Rattle.book.proofs.Stores.{holds-then}
-use Rattle.sheet.specs.Fields.{withBlankNode, withBlankMachine}
+use Rattle.sheet.specs.Fields.{withMark, withBlankMachine}
 use Rattle.sheet.proofs.Stores.{leaves-then}
-use Rattle.clearing.specs.Gone.{Ready, Left, withoutMark, withoutNodes, withoutMachines, withoutNodeRows, withoutMachineRows}
-use Rattle.clearing.specs.Gone.{NodesGone, MachinesGone, only, upTo}
+use Rattle.marking.specs.Stale.{withBlankNodes}
+use Rattle.clearing.specs.Gone.{Sized, Left, withoutNodes, withoutMachines, withoutMachineRows}
+use Rattle.clearing.specs.Gone.{NodeDropped, MachineDropped, NodesGone, MachinesGone, only, upTo}
 
 -- what was left is left with the same tree and rows by other names
 pub left-same : {a b c : List ℕ} {t u : Tree} {r q : Rows} → Left a b c t r → t ≡ u → r ≡ q → Left a b c u q
@@ -38,16 +39,16 @@ left-then f g first second =
     record { book = holds-then f (first .book) (second .book); sheet = leaves-then g (first .sheet) (second .sheet) }
 
 -- nothing done
-pub left-idle : (book sheet : List ℕ) → Ready book sheet → Left sheet book sheet (treeOf book) (rowsOf sheet)
-left-idle book sheet ready =
+pub left-idle : (book sheet : List ℕ) → Sized book sheet → Left sheet book sheet (treeOf book) (rowsOf sheet)
+left-idle book sheet sized =
     record {
-      book = record { length = ready .book; tree = refl };
-      sheet = record { length = ready .sheet; marks = λ marks. marks; rows = refl };
+      book = record { length = sized .book; tree = refl };
+      sheet = record { length = sized .sheet; marks = λ marks. marks; rows = refl };
     }
 
 -- what is left is of the right lengths
-pub left-ready : {a b c : List ℕ} {t : Tree} {r : Rows} → Left a b c t r → Ready b c
-left-ready left = record { book = left .book .length; sheet = left .sheet .length }
+pub left-sized : {a b c : List ℕ} {t : Tree} {r : Rows} → Left a b c t r → Sized b c
+left-sized left = record { book = left .book .length; sheet = left .sheet .length }
 
 -- ---- tests
 
@@ -99,7 +100,7 @@ machines-both t a b =
     same-tree _ _ refl (λ n. refl) (λ n. refl) (λ m. unless-both (a m) (b m) (t .start m)) (λ m. unless-both (a m) (b m) (t .holder m))
     (λ n x. refl)
 
-node-rows-both : (r : Rows) (a b : ℕ → Bool) → withoutNodeRows (withoutNodeRows r a) b ≡ withoutNodeRows r (λ k. a k || b k)
+node-rows-both : (r : Rows) (a b : ℕ → Bool) → withBlankNodes (withBlankNodes r a) b ≡ withBlankNodes r (λ k. a k || b k)
 node-rows-both r a b =
     same-rows _ _ (λ m. refl) (λ m x. refl) (λ m x. refl) (λ n. unless-both (a n) (b n) (r .cost n))
     (λ n. unless-both (a n) (b n) (r .before n)) (λ n. unless-both (a n) (b n) (r .by n))
@@ -122,30 +123,30 @@ node-one t i =
 
 module _ (g : ℕ → Bool) (i : ℕ) where
   -- at first
-  pub nodes-none : (book sheet : List ℕ) → Ready book sheet → NodesGone book sheet book sheet (upTo g 0)
-  nodes-none book sheet ready =
-      left-same (left-idle book sheet ready) (ap (withoutNodes (treeOf book)) (none-up g)) (ap (withoutNodeRows (rowsOf sheet)) (none-up g))
+  pub nodes-none : (book sheet : List ℕ) → Sized book sheet → NodesGone book sheet book sheet (upTo g 0)
+  nodes-none book sheet sized =
+      left-same (left-idle book sheet sized) (ap (withoutNodes (treeOf book)) (none-up g)) (ap (withBlankNodes (rowsOf sheet)) (none-up g))
 
   -- node i does not pass
-  pub node-stays : (book sheet : List ℕ) → Ready book sheet → g i ≡ false → NodesGone book sheet book sheet (only g i)
-  node-stays book sheet ready off =
-      left-same (left-idle book sheet ready) (ap (withoutNodes (treeOf book)) (none-only g i off))
-      (ap (withoutNodeRows (rowsOf sheet)) (none-only g i off))
+  pub node-stays : (book sheet : List ℕ) → Sized book sheet → g i ≡ false → NodesGone book sheet book sheet (only g i)
+  node-stays book sheet sized off =
+      left-same (left-idle book sheet sized) (ap (withoutNodes (treeOf book)) (none-only g i off))
+      (ap (withBlankNodes (rowsOf sheet)) (none-only g i off))
 
   -- node i passes and is dropped
   pub node-goes : (book : List ℕ) {sheet after rows : List ℕ} → g i ≡ true
-      → Left sheet after rows (withoutNode (treeOf book) i) (withBlankNode (rowsOf sheet) i) → NodesGone book sheet after rows (only g i)
+      → NodeDropped book sheet after rows i → NodesGone book sheet after rows (only g i)
   node-goes book {sheet} on left =
       left-same left (node-one (treeOf book) i ∙ ap (withoutNodes (treeOf book)) (one-only g i on))
-      (ap (withoutNodeRows (rowsOf sheet)) (one-only g i on))
+      (ap (withBlankNodes (rowsOf sheet)) (one-only g i on))
 
   -- one node more
   pub nodes-more : (b : List ℕ) {s b₁ s₁ b₂ s₂ : List ℕ} → NodesGone b s b₁ s₁ (upTo g i) → NodesGone b₁ s₁ b₂ s₂ (only g i)
       → NodesGone b s b₂ s₂ (upTo g (i + 1))
   nodes-more b {s} first second =
-      left-same (left-then (λ t. withoutNodes t (only g i)) (λ r. withoutNodeRows r (only g i)) first second)
+      left-same (left-then (λ t. withoutNodes t (only g i)) (λ r. withBlankNodes r (only g i)) first second)
       (nodes-both (treeOf b) (upTo g i) (only g i) ∙ ap (withoutNodes (treeOf b)) (up-more g i))
-      (node-rows-both (rowsOf s) (upTo g i) (only g i) ∙ ap (withoutNodeRows (rowsOf s)) (up-more g i))
+      (node-rows-both (rowsOf s) (upTo g i) (only g i) ∙ ap (withBlankNodes (rowsOf s)) (up-more g i))
 
   -- the last
   pub nodes-end : i ≡ nodes → (b : List ℕ) {s b′ s′ : List ℕ} → NodesGone b s b′ s′ (upTo g i) → NodesGone b s b′ s′ (upTo g nodes)
@@ -153,25 +154,25 @@ module _ (g : ℕ → Bool) (i : ℕ) where
 
 -- ---- the loop over the machines
 
-machine-one : (r : Rows) (i : ℕ) → withoutMark (withBlankMachine r i) i ≡ withoutMachineRows r (λ k. eqb k i)
+machine-one : (r : Rows) (i : ℕ) → withMark (withBlankMachine r i) i false ≡ withoutMachineRows r (λ k. eqb k i)
 machine-one r i =
     same-rows _ _ (λ m. refl) (λ m x. spread (eqb m i) (r .exit m) x) (λ m x. spread (eqb m i) (r .last m) x) (λ n. refl) (λ n. refl) (λ n. refl)
 
 module _ (g : ℕ → Bool) (i : ℕ) where
   -- at first
-  pub machines-none : (book sheet : List ℕ) → Ready book sheet → MachinesGone book sheet book sheet (upTo g 0)
-  machines-none book sheet ready =
-      left-same (left-idle book sheet ready) (ap (withoutMachines (treeOf book)) (none-up g)) (ap (withoutMachineRows (rowsOf sheet)) (none-up g))
+  pub machines-none : (book sheet : List ℕ) → Sized book sheet → MachinesGone book sheet book sheet (upTo g 0)
+  machines-none book sheet sized =
+      left-same (left-idle book sheet sized) (ap (withoutMachines (treeOf book)) (none-up g)) (ap (withoutMachineRows (rowsOf sheet)) (none-up g))
 
   -- machine i does not pass
-  pub machine-stays : (book sheet : List ℕ) → Ready book sheet → g i ≡ false → MachinesGone book sheet book sheet (only g i)
-  machine-stays book sheet ready off =
-      left-same (left-idle book sheet ready) (ap (withoutMachines (treeOf book)) (none-only g i off))
+  pub machine-stays : (book sheet : List ℕ) → Sized book sheet → g i ≡ false → MachinesGone book sheet book sheet (only g i)
+  machine-stays book sheet sized off =
+      left-same (left-idle book sheet sized) (ap (withoutMachines (treeOf book)) (none-only g i off))
       (ap (withoutMachineRows (rowsOf sheet)) (none-only g i off))
 
   -- machine i passes and is dropped
   pub machine-goes : (book : List ℕ) {sheet after rows : List ℕ} → g i ≡ true
-      → Left sheet after rows (withoutMachine (treeOf book) i) (withoutMark (withBlankMachine (rowsOf sheet) i) i)
+      → MachineDropped book sheet after rows i
       → MachinesGone book sheet after rows (only g i)
   machine-goes book {sheet} on left =
       left-same left (ap (withoutMachines (treeOf book)) (one-only g i on))

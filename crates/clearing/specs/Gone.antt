@@ -10,11 +10,12 @@ use Rattle.definitions.specs.Limits.{bookLength, sheetLength}
 use Rattle.definitions.specs.Tree.{Tree}
 use Rattle.definitions.specs.Book.{treeOf}
 use Rattle.definitions.specs.Sheet.{Rows, rowsOf}
-use Rattle.book.specs.Fields.{Holds}
-use Rattle.sheet.specs.Fields.{Leaves, withMark}
+use Rattle.book.specs.Fields.{Holds, withoutNode, withoutMachine}
+use Rattle.sheet.specs.Fields.{Leaves, withMark, withBlankMachine, withBlankNode}
+use Rattle.marking.specs.Stale.{withBlankNodes}
 
 -- a book and a sheet of the right lengths
-pub record Ready (ws rs : List ℕ) : Type 0 where
+pub record Sized (ws rs : List ℕ) : Type 0 where
   pub book : length ws ≡ bookLength
   pub sheet : length rs ≡ sheetLength
 
@@ -22,10 +23,6 @@ pub record Ready (ws rs : List ℕ) : Type 0 where
 pub record Left (rs ws′ rs′ : List ℕ) (t : Tree) (r : Rows) : Type 0 where
   pub book : Holds ws′ t
   pub sheet : Leaves rs rs′ r
-
--- the rows where machine m is not marked
-abbrev pub withoutMark : Rows → ℕ → Rows
-withoutMark r m = withMark r m false
 
 -- the tree where nothing is said of the nodes that pass the test
 abbrev pub withoutNodes : Tree → (ℕ → Bool) → Tree
@@ -51,18 +48,6 @@ withoutMachines t gone =
       transition = t .transition;
     }
 
--- the rows where the nodes that pass the test are blank
-abbrev pub withoutNodeRows : Rows → (ℕ → Bool) → Rows
-withoutNodeRows r gone =
-    record {
-      stale = r .stale;
-      exit = r .exit;
-      last = r .last;
-      cost = λ k. unless (gone k) (r .cost k);
-      before = λ k. unless (gone k) (r .before k);
-      by = λ k. unless (gone k) (r .by k);
-    }
-
 -- the rows where the machines that pass the test are blank and not marked
 abbrev pub withoutMachineRows : Rows → (ℕ → Bool) → Rows
 withoutMachineRows r gone =
@@ -78,11 +63,19 @@ withoutMachineRows r gone =
 -- the nodes, the machines that pass the test have fallen out of use
 abbrev pub NodesGone : List ℕ → List ℕ → List ℕ → List ℕ → (ℕ → Bool) → Type 0
 NodesGone book sheet book′ sheet′ gone =
-    Left sheet book′ sheet′ (withoutNodes (treeOf book) gone) (withoutNodeRows (rowsOf sheet) gone)
+    Left sheet book′ sheet′ (withoutNodes (treeOf book) gone) (withBlankNodes (rowsOf sheet) gone)
 
 abbrev pub MachinesGone : List ℕ → List ℕ → List ℕ → List ℕ → (ℕ → Bool) → Type 0
 MachinesGone book sheet book′ sheet′ gone =
     Left sheet book′ sheet′ (withoutMachines (treeOf book) gone) (withoutMachineRows (rowsOf sheet) gone)
+
+-- node n alone, machine m alone has fallen out of use
+abbrev pub NodeDropped : List ℕ → List ℕ → List ℕ → List ℕ → ℕ → Type 0
+NodeDropped book sheet book′ sheet′ n = Left sheet book′ sheet′ (withoutNode (treeOf book) n) (withBlankNode (rowsOf sheet) n)
+
+abbrev pub MachineDropped : List ℕ → List ℕ → List ℕ → List ℕ → ℕ → Type 0
+MachineDropped book sheet book′ sheet′ m =
+    Left sheet book′ sheet′ (withoutMachine (treeOf book) m) (withMark (withBlankMachine (rowsOf sheet) m) m false)
 
 -- whether a list has 1 at a number
 abbrev pub chosen : List ℕ → ℕ → Bool

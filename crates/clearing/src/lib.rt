@@ -1,19 +1,13 @@
 // Numbers that fall out of use (document 01, "Loading a stream"): their words in book and sheet are left as an unused one has them, the
 // mark of a machine 0. A list has 1 at each number that falls out of use.
-ghost use mathlib.Core.Path.{_≡_};
 ghost use Prim.Native.Nat.{_<_};
-ghost use lib.ListN.{length};
-ghost use Rattle.definitions.specs.Limits.{machines, nodes, bookLength, sheetLength};
-ghost use Rattle.definitions.specs.Book.{treeOf};
-ghost use Rattle.definitions.specs.Sheet.{rowsOf};
-ghost use Rattle.book.specs.Fields.{withoutNode, withoutMachine};
-ghost use Rattle.sheet.specs.Fields.{withMark, withBlankMachine, withBlankNode};
-ghost use Rattle.clearing.specs.Gone.{Left, Ready, chosen, only, upTo, NodesGone, MachinesGone, withoutMark};
+ghost use Rattle.definitions.specs.Limits.{machines, nodes};
+ghost use Rattle.clearing.specs.Gone.{Sized, NodeDropped, MachineDropped, NodesGone, MachinesGone, chosen, only, upTo};
 
 // Leaves the record and the row of node n as an unused node has them.
 pub fn drop_node(book: &mut [u32], sheet: &mut [u32], n: u32)
-    requires { ⌜ Ready (now book) (now sheet) × (n < nodes) ⌝ }
-    ensures { λ r. ⌜ Left (now (sheet .entry)) (now (book .exit)) (now (sheet .exit)) (withoutNode (treeOf (now (book .entry))) n) (withBlankNode (rowsOf (now (sheet .entry))) n) ⌝ }
+    requires { ⌜ Sized (now book) (now sheet) × (n < nodes) ⌝ }
+    ensures { λ r. ⌜ NodeDropped (now (book .entry)) (now (sheet .entry)) (now (book .exit)) (now (sheet .exit)) n ⌝ }
 {
     book::clear_node(book, n);
     sheet::blank_node_row(sheet, n);
@@ -21,8 +15,8 @@ pub fn drop_node(book: &mut [u32], sheet: &mut [u32], n: u32)
 
 // Leaves the record, the row and the mark of machine m as an unused machine has them.
 pub fn drop_machine(book: &mut [u32], sheet: &mut [u32], m: u32)
-    requires { ⌜ Ready (now book) (now sheet) × (m < machines) ⌝ }
-    ensures { λ r. ⌜ Left (now (sheet .entry)) (now (book .exit)) (now (sheet .exit)) (withoutMachine (treeOf (now (book .entry))) m) (withoutMark (withBlankMachine (rowsOf (now (sheet .entry))) m) m) ⌝ }
+    requires { ⌜ Sized (now book) (now sheet) × (m < machines) ⌝ }
+    ensures { λ r. ⌜ MachineDropped (now (book .entry)) (now (sheet .entry)) (now (book .exit)) (now (sheet .exit)) m ⌝ }
 {
     book::clear_machine(book, m);
     sheet::blank_machine_row(sheet, m);
@@ -31,7 +25,7 @@ pub fn drop_machine(book: &mut [u32], sheet: &mut [u32], m: u32)
 
 // Drops node n where the list has 1 at it.
 fn drop_node_if(book: &mut [u32], sheet: &mut [u32], gone: &[u32; 256], n: u32)
-    requires { ⌜ Ready (now book) (now sheet) × (n < nodes) ⌝ }
+    requires { ⌜ Sized (now book) (now sheet) × (n < nodes) ⌝ }
     ensures { λ r. ⌜ NodesGone (now (book .entry)) (now (sheet .entry)) (now (book .exit)) (now (sheet .exit)) (only (chosen (now (gone .entry))) n) ⌝ }
 {
     let here = gone[n as usize];
@@ -43,7 +37,7 @@ fn drop_node_if(book: &mut [u32], sheet: &mut [u32], gone: &[u32; 256], n: u32)
 
 // Drops machine m where the list has 1 at it.
 fn drop_machine_if(book: &mut [u32], sheet: &mut [u32], gone: &[u32; 64], m: u32)
-    requires { ⌜ Ready (now book) (now sheet) × (m < machines) ⌝ }
+    requires { ⌜ Sized (now book) (now sheet) × (m < machines) ⌝ }
     ensures { λ r. ⌜ MachinesGone (now (book .entry)) (now (sheet .entry)) (now (book .exit)) (now (sheet .exit)) (only (chosen (now (gone .entry))) m) ⌝ }
 {
     let here = gone[m as usize];
@@ -55,7 +49,7 @@ fn drop_machine_if(book: &mut [u32], sheet: &mut [u32], gone: &[u32; 64], m: u32
 
 // Drops every node where the list has 1 at it.
 pub fn clear_nodes(book: &mut [u32], sheet: &mut [u32], gone: &[u32; 256])
-    requires { ⌜ Ready (now book) (now sheet) ⌝ }
+    requires { ⌜ Sized (now book) (now sheet) ⌝ }
     ensures { λ r. ⌜ NodesGone (now (book .entry)) (now (sheet .entry)) (now (book .exit)) (now (sheet .exit)) (upTo (chosen (now (gone .entry))) nodes) ⌝ }
 {
     let mut n = 0u32;
@@ -67,7 +61,7 @@ pub fn clear_nodes(book: &mut [u32], sheet: &mut [u32], gone: &[u32; 256])
 
 // Drops every machine where the list has 1 at it.
 pub fn clear_machines(book: &mut [u32], sheet: &mut [u32], gone: &[u32; 64])
-    requires { ⌜ Ready (now book) (now sheet) ⌝ }
+    requires { ⌜ Sized (now book) (now sheet) ⌝ }
     ensures { λ r. ⌜ MachinesGone (now (book .entry)) (now (sheet .entry)) (now (book .exit)) (now (sheet .exit)) (upTo (chosen (now (gone .entry))) machines) ⌝ }
 {
     let mut m = 0u32;

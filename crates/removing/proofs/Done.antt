@@ -1,5 +1,5 @@
 -- What remove leaves, from what its parts leave. Assumes nothing.
-use mathlib.Core.Path.{_≡_, refl, ap, sym, _∙_}
+use mathlib.Core.Path.{_≡_, refl, _∙_}
 use mathlib.Core.Bool.{Bool, true, false, cond, not, _&&_, _||_}
 use mathlib.Core.Option.{Option, none, some}
 use mathlib.Core.List.{List}
@@ -7,16 +7,19 @@ use Prim.Native.Nat.{ℕ}
 use Rattle.definitions.specs.Basics.{option, unless, isSome}
 use Rattle.definitions.specs.Limits.{machines, nodes}
 use Rattle.definitions.specs.Tree.{Tree, within, over}
-use Rattle.definitions.specs.Book.{encode, treeOf, WellFormed}
-use Rattle.definitions.specs.Sheet.{Rows, encodeRows, rowsOf}
-use Rattle.definitions.specs.Truth.{TrueSheet}
-use Rattle.definitions.specs.Stream as stream
+use Rattle.definitions.specs.Book.{treeOf, WellFormed}
+use Rattle.definitions.specs.Sheet.{Rows, rowsOf}
+use Rattle.definitions.specs.Stream.{Edit}
 use Rattle.definitions.specs.Edit.{heldWithin, without, withStale, edited, touches, editedRows}
-use Rattle.definitions.proofs.Words.{same-rows, encode-treeOf, marks-words, holder-range}
+use Rattle.definitions.proofs.Words.{same-rows, holder-range}
+use Rattle.definitions.proofs.Commands.{TakenRemove, taken-remove}
 use Rattle.book.specs.Fields.{Holds}
-use Rattle.clearing.specs.Gone.{Left, chosen, upTo, NodesGone, MachinesGone, withoutNodes, withoutMachines, withoutNodeRows, withoutMachineRows}
+use Rattle.clearing.specs.Gone.{Left, chosen, upTo, NodesGone, MachinesGone, withoutNodes, withoutMachines, withoutMachineRows}
 use Rattle.clearing.proofs.Laws.{left-then, nodes-all, machines-all}
-use Rattle.marking.specs.Stale.{LeavesStaleOver}
+use Rattle.marking.specs.Stale.{withBlankNodes, LeavesStaleOver}
+use Rattle.marking.proofs.Blanks.{leaves-same}
+use Rattle.editing.specs.Edited.{Ready, Edited}
+use Rattle.editing.proofs.Left.{left-edited}
 use Rattle.removing.specs.Within.{Listed, heldBy, withoutInto}
 
 -- a machine that is held within n is held by a listed node
@@ -42,7 +45,7 @@ module _ (t : Tree) (touched gone held : ℕ → Bool) (r : Rows) where
   node true o v = refl
   node false o v = refl
 
-  pub rows-without : withoutMachineRows (withoutNodeRows (withStale t touched r) gone) held
+  pub rows-without : withoutMachineRows (withBlankNodes (withStale t touched r) gone) held
       ≡ withStale (withoutMachines (withoutNodes t gone) held) touched r
   unfolding withStale
   rows-without =
@@ -51,31 +54,34 @@ module _ (t : Tree) (touched gone held : ℕ → Bool) (r : Rows) where
       (λ n. node (gone n) (t .owner n) (r .before n)) (λ n. node (gone n) (t .owner n) (r .by n))
 
 -- remove, from its parts
-module _ (b : List ℕ) (w : WellFormed b) {s : List ℕ} (sheet : TrueSheet (treeOf b) s) (n : ℕ) {s₁ : List ℕ}
-    (touched : LeavesStaleOver (treeOf b) n s s₁) (gone held : List ℕ) (nodes-listed : Listed nodes nodes (within (treeOf b) n) gone)
-    (machines-listed : Listed machines machines (heldBy (treeOf b) gone) held) {b₁ : List ℕ} (into : Holds b₁ (withoutInto (treeOf b) n))
-    {b₂ s₂ : List ℕ} (nodes-gone : NodesGone b₁ s₁ b₂ s₂ (upTo (chosen gone) nodes)) {b₃ s₃ : List ℕ}
-    (machines-gone : MachinesGone b₂ s₂ b₃ s₃ (upTo (chosen held) machines)) where
-  left : Left s b₃ s₃ (without (treeOf b) n) (withoutMachineRows (withoutNodeRows (withStale (treeOf b) (λ p. over (treeOf b) p n) (rowsOf s)) (within (treeOf b) n)) (heldWithin (treeOf b) n))
-  unfolding without
-  left =
-      let first = nodes-all (chosen gone) (within (treeOf b) n) (nodes-listed .at) b₁ nodes-gone in
-      let second =
-      machines-all (chosen held) (heldWithin (treeOf b) n) (λ m h. machines-listed .at m h ∙ listed-held b w n gone nodes-listed m) b₂ machines-gone in
-      left-then (λ t. withoutMachines t (heldWithin (treeOf b) n)) (λ r. withoutMachineRows r (heldWithin (treeOf b) n))
-      (left-then (λ t. withoutNodes t (within (treeOf b) n)) (λ r. withoutNodeRows r (within (treeOf b) n))
-      (record { book = into; sheet = touched }) first)
-      second
+module _ {b s : List ℕ} {n : ℕ} (ready : Ready b s (Edit.remove n)) where
+  -- what it is done on: a node in use
+  pub remove-taken : TakenRemove (treeOf b) n
+  remove-taken = taken-remove (treeOf b) n (ready .taken)
 
-  pub removed-book : b₃ ≡ encode (edited (treeOf b) (stream.remove n))
-  unfolding edited
-  removed-book = sym (encode-treeOf b₃ (left .book .length)) ∙ ap encode (left .book .tree)
+  module _ {s₁ : List ℕ} (touched : LeavesStaleOver (treeOf b) n s s₁) (gone held : List ℕ)
+      (nodes-listed : Listed nodes nodes (within (treeOf b) n) gone) (machines-listed : Listed machines machines (heldBy (treeOf b) gone) held)
+      {b₁ : List ℕ} (into : Holds b₁ (withoutInto (treeOf b) n)) {b₂ s₂ : List ℕ}
+      (nodes-gone : NodesGone b₁ s₁ b₂ s₂ (upTo (chosen gone) nodes)) {b₃ s₃ : List ℕ}
+      (machines-gone : MachinesGone b₂ s₂ b₃ s₃ (upTo (chosen held) machines)) where
+    -- what the parts leave, one after the other
+    left : Left s b₃ s₃ (withoutMachines (withoutNodes (withoutInto (treeOf b) n) (within (treeOf b) n)) (heldWithin (treeOf b) n))
+        (withoutMachineRows (withBlankNodes (withStale (treeOf b) (λ p. over (treeOf b) p n) (rowsOf s)) (within (treeOf b) n))
+        (heldWithin (treeOf b) n))
+    left =
+        let first = nodes-all (chosen gone) (within (treeOf b) n) (nodes-listed .at) b₁ nodes-gone in
+        let second =
+        machines-all (chosen held) (heldWithin (treeOf b) n)
+        (λ m h. machines-listed .at m h ∙ listed-held b (ready .formed) n gone nodes-listed m) b₂ machines-gone in
+        left-then (λ t. withoutMachines t (heldWithin (treeOf b) n)) (λ r. withoutMachineRows r (heldWithin (treeOf b) n))
+        (left-then (λ t. withoutNodes t (within (treeOf b) n)) (λ r. withBlankNodes r (within (treeOf b) n))
+        (record { book = into; sheet = touched }) first)
+        second
 
-  pub removed-rows : rowsOf s₃ ≡ editedRows (treeOf b) (stream.remove n) (rowsOf s)
-  unfolding editedRows edited touches without withStale
-  removed-rows =
-      left .sheet .rows
-      ∙ rows-without (treeOf b) (λ p. over (treeOf b) p n) (within (treeOf b) n) (heldWithin (treeOf b) n) (rowsOf s)
-
-  pub removed-sheet : s₃ ≡ encodeRows (editedRows (treeOf b) (stream.remove n) (rowsOf s))
-  removed-sheet = sym (marks-words s₃ (left .sheet .length) (left .sheet .marks (sheet .marks))) ∙ ap encodeRows removed-rows
+    -- is what the edit leaves
+    pub remove-done : Edited b s (Edit.remove n) b₃ s₃
+    unfolding edited editedRows touches without withStale
+    remove-done =
+        left-edited ready (left .book)
+        (leaves-same (left .sheet)
+        (rows-without (treeOf b) (λ p. over (treeOf b) p n) (within (treeOf b) n) (heldWithin (treeOf b) n) (rowsOf s)))

@@ -33,6 +33,12 @@ within-unused t n {d} own = rw own (or-false (eqb n d))
 
 -- ---- the climb, from what the words say
 
+-- the climb from d goes on from node k to node h, which is one level higher
+pub record Up (t : Tree) (n d k h : ℕ) : Type 0 where
+  pub range : h < nodes
+  pub same : within t n d ≡ within t n h
+  pub higher : level t h < level t k
+
 module _ (ws : List ℕ) (w : WellFormed ws) (n d : ℕ) {k : ℕ} (same : within (treeOf ws) n d ≡ within (treeOf ws) n k) where
   -- the node itself is met
   pub met : k ≡ n → true ≡ within (treeOf ws) n d
@@ -58,19 +64,15 @@ module _ (ws : List ℕ) (w : WellFormed ws) (n d : ℕ) {k : ℕ} (same : withi
         pub top-told : h ≡ absent → false ≡ within (treeOf ws) n d
         top-told free = sym (same ∙ within-top (treeOf ws) n own (no-holder (treeOf ws) (w .sound) o holder free) ∙ away)
 
-        module _ (present : h ≡ absent → ⊥) where
-          held : treeOf ws .holder o ≡ some h
-          held = present-word (treeOf ws .holder o) holder present
-
-          -- on from the node that holds its machine, which is one level higher
-          pub up-range : h < nodes
-          up-range = holder-range (treeOf ws) (w .sound) o h held .1
-
-          pub up-told : within (treeOf ws) n d ≡ within (treeOf ws) n h
-          up-told = same ∙ within-up (w .sound) n own held ∙ rw away
-
-          pub higher-told : level (treeOf ws) h < level (treeOf ws) k
-          higher-told = omega (arith, level-on (w .sound) own held)
+        -- on from the node that holds its machine
+        pub up-told : (h ≡ absent → ⊥) → Up (treeOf ws) n d k h
+        up-told present =
+            let held : treeOf ws .holder o ≡ some h = present-word (treeOf ws .holder o) holder present in
+            record {
+              range = holder-range (treeOf ws) (w .sound) o h held .1;
+              same = same ∙ within-up (w .sound) n own held ∙ rw away;
+              higher = omega (arith, level-on (w .sound) own held);
+            }
 
 -- ---- what a list has at a machine's holder
 

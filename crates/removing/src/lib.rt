@@ -5,12 +5,11 @@ ghost use lib.Dec.{eqb};
 ghost use lib.ListN.{length};
 ghost use Rattle.definitions.specs.Limits.{machines, nodes, commands, bookLength};
 ghost use Rattle.definitions.specs.Tree.{within};
-ghost use Rattle.definitions.specs.Book.{treeOf, encode, WellFormed};
-ghost use Rattle.definitions.specs.Sheet.{rowsOf, encodeRows};
-ghost use Rattle.definitions.specs.Truth.{TrueSheet};
-ghost use Rattle.definitions.specs.Stream.{remove, edit};
-ghost use Rattle.definitions.specs.Edit.{refusal, edited, editedRows, withTransition};
+ghost use Rattle.definitions.specs.Book.{treeOf, WellFormed};
+ghost use Rattle.definitions.specs.Stream.{Edit};
+ghost use Rattle.definitions.specs.Edit.{withTransition};
 ghost use Rattle.book.specs.Fields.{Holds};
+ghost use Rattle.editing.specs.Edited.{Ready, Edited};
 ghost use Rattle.removing.specs.Within.{Listed, heldBy, notInto, withoutIntoAt, withoutInto};
 
 // 1 where node d is node n or below it, else 0.
@@ -111,10 +110,10 @@ fn clear_into(book: &mut [u32], n: u32)
     }
 }
 
-// Removes node n, all below it and the transitions into it; the machine of n and all above it are marked and blanked.
+// Remove: drops node n, all below it and the transitions into it. It marks the machine of n and all above it; all else stays.
 pub fn do_remove(book: &mut [u32], sheet: &mut [u32], n: u32)
-    requires { ⌜ WellFormed (now book) × TrueSheet (treeOf (now book)) (now sheet) × (refusal (treeOf (now book)) (edit (remove n)) ≡ 0) ⌝ }
-    ensures { λ r. ⌜ (now (book .exit) ≡ encode (edited (treeOf (now (book .entry))) (remove n))) × (now (sheet .exit) ≡ encodeRows (editedRows (treeOf (now (book .entry))) (remove n) (rowsOf (now (sheet .entry))))) × (rowsOf (now (sheet .exit)) ≡ editedRows (treeOf (now (book .entry))) (remove n) (rowsOf (now (sheet .entry)))) ⌝ }
+    requires { ⌜ Ready (now book) (now sheet) (Edit.remove n) ⌝ }
+    ensures { λ r. ⌜ Edited (now (book .entry)) (now (sheet .entry)) (Edit.remove n) (now (book .exit)) (now (sheet .exit)) ⌝ }
 {
     marking::touch(book, sheet, n);
     let gone = nodes_within(book, n);

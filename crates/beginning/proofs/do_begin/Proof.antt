@@ -1,8 +1,6 @@
 -- `beginning::do_begin` meets its contract: all is emptied, and then root, start node, owner and mark are written. Assumes nothing.
 use denote.Ref.{now}
-use Rattle.definitions.specs.Book.{treeOf}
-use Rattle.definitions.specs.Sheet.{rowsOf}
-use Rattle.beginning.proofs.Laws.{begun-book, begun-sheet}
+use Rattle.beginning.proofs.Laws.{begin-done}
 use borrow.Author.Needs.{needs}
 use Rattle.beginning.proofs.do_begin.Statement.{statement}
 use Rattle.beginning.proofs.do_begin.Tie as tie
@@ -36,12 +34,8 @@ returns c =
     let root = start .before .before .before .before in
     let empty = root .before .before .before .before .before .before in
     let e = empty .before .before .before .before .before in
-    let t = treeOf (now (e .args .book)) in (
-      begun-book (e .args .m) (e .args .n) (e .pre .1) (e .pre .2) (empty .empty .ensures) (root .set-root .ensures) (start .set-start .ensures)
-          (owner .set-owner .ensures) t,
-      begun-sheet (e .args .m) (e .args .n) (e .pre .1) (e .pre .2) (empty .empty .ensures) (mark .set-stale .ensures) t
-          (rowsOf (now (e .args .sheet))),
-    )
+    begin-done (e .args .m) (e .args .n) (e .pre .1) (e .pre .2) (now (e .args .book)) (now (e .args .sheet)) (empty .empty .ensures)
+    (root .set-root .ensures) (start .set-start .ensures) (owner .set-owner .ensures) (mark .set-stale .ensures)
 
 pub do-begin-spec : {M : Type 1} → statement M
 do-begin-spec =

@@ -5,7 +5,7 @@ use native.Mathlib.Omega.{arith}
 use denote.Ref.{now}
 use Rattle.definitions.specs.Limits.{machines}
 use Rattle.clearing.specs.Gone.{chosen, upTo, MachinesGone}
-use Rattle.clearing.proofs.Laws.{left-ready, machines-none, machines-more, machines-end}
+use Rattle.clearing.proofs.Laws.{left-sized, machines-none, machines-more, machines-end}
 use Rattle.clearing.proofs.clear_machines.Statement.{statement}
 use Rattle.clearing.proofs.clear_machines.Tie as tie
 
@@ -21,7 +21,7 @@ loop-holds c =
     (omega arith, machines-none (chosen (now (e .args .gone))) 0 (now (e .args .book)) (now (e .args .sheet)) (e .pre))
 
 drop-machine-if-requires : tie.Need-drop-machine-if-requires Inv-loop μ-loop
-drop-machine-if-requires c κs = (left-ready (c .before .before .before .loop .inv .1), c .before .before .loop-test .taken)
+drop-machine-if-requires c κs = (left-sized (c .before .before .before .loop .inv .1), c .before .before .loop-test .taken)
 
 add-m : tie.Need-add-m Inv-loop μ-loop
 add-m c = omega arith

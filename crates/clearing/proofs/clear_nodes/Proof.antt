@@ -5,7 +5,7 @@ use native.Mathlib.Omega.{arith}
 use denote.Ref.{now}
 use Rattle.definitions.specs.Limits.{nodes}
 use Rattle.clearing.specs.Gone.{chosen, upTo, NodesGone}
-use Rattle.clearing.proofs.Laws.{left-ready, nodes-none, nodes-more, nodes-end}
+use Rattle.clearing.proofs.Laws.{left-sized, nodes-none, nodes-more, nodes-end}
 use Rattle.clearing.proofs.clear_nodes.Statement.{statement}
 use Rattle.clearing.proofs.clear_nodes.Tie as tie
 
@@ -21,7 +21,7 @@ loop-holds c =
     (omega arith, nodes-none (chosen (now (e .args .gone))) 0 (now (e .args .book)) (now (e .args .sheet)) (e .pre))
 
 drop-node-if-requires : tie.Need-drop-node-if-requires Inv-loop μ-loop
-drop-node-if-requires c κs = (left-ready (c .before .before .before .loop .inv .1), c .before .before .loop-test .taken)
+drop-node-if-requires c κs = (left-sized (c .before .before .before .loop .inv .1), c .before .before .loop-test .taken)
 
 add-n : tie.Need-add-n Inv-loop μ-loop
 add-n c = omega arith

@@ -26,9 +26,11 @@ same-length-2 c = search needs
 returns-2 : tie.Need-returns-2
 unfolding transitionOf
 returns-2 c =
-    let e = c .before .before .before .before .before .before .before .before in
-    into-goes (now (e .args .book)) (e .args .k) (e .args .x) (e .args .n) (e .pre .3) (c .before .before .before .before .before .transition .ensures) (c .before .before .before .before .if1 .left)
-    (c .before .before .set-transition .ensures)
+    let store = c .before .before in
+    let w = store .before .before .before in
+    let e = w .before .before .before in
+    into-goes (now (e .args .book)) (e .args .k) (e .args .x) (e .args .n) (e .pre .3) (w .transition .ensures) (store .before .before .if1 .left)
+    (store .set-transition .ensures)
 
 pub clear-into-at-spec : {M : Type 1} → statement M
 clear-into-at-spec =

@@ -1,8 +1,5 @@
 -- `removing::do_remove` meets its contract: marking first, then the lists, and then what they name is dropped. Assumes nothing.
-use denote.Ref.{now}
-use Rattle.definitions.specs.Book.{treeOf}
-use Rattle.definitions.proofs.Commands.{taken-remove}
-use Rattle.removing.proofs.Done.{removed-book, removed-sheet, removed-rows}
+use Rattle.removing.proofs.Done.{remove-taken, remove-done}
 use borrow.Author.Needs.{needs}
 use Rattle.removing.proofs.do_remove.Statement.{statement}
 use Rattle.removing.proofs.do_remove.Tie as tie
@@ -10,7 +7,7 @@ use Rattle.removing.proofs.do_remove.Tie as tie
 touch-requires : tie.Need-touch-requires
 touch-requires c κs =
     let e = c .before .before .before .before in
-    (e .pre .0, e .pre .1, taken-remove (treeOf (now (e .args .book))) (e .args .n) (e .pre .2) .node-used)
+    (e .pre .formed, e .pre .filled, remove-taken (e .pre) .node-used)
 
 nodes-within-requires : tie.Need-nodes-within-requires
 nodes-within-requires c κs = search needs
@@ -20,8 +17,9 @@ machines-within-requires c κs = search needs
 
 clear-into-requires : tie.Need-clear-into-requires
 clear-into-requires c κs =
-    let e = c .before .before .before .before .before .before .before .before .before .before .before .before .before in
-    (e .pre .0 .length, taken-remove (treeOf (now (e .args .book))) (e .args .n) (e .pre .2) .node-range)
+    let touch = c .before .before .before .before .before .before .before .before in
+    let e = touch .before .before .before .before .before in
+    (e .pre .formed .length, remove-taken (e .pre) .node-range)
 
 clear-nodes-requires : tie.Need-clear-nodes-requires
 clear-nodes-requires c κs = search needs
@@ -38,19 +36,14 @@ same-length-2 c = search needs
 returns : tie.Need-returns
 returns c =
     let machines-gone = c .before .before .before .before in
-    let nodes-gone = c .before .before .before .before .before .before .before .before .before .before .before .before in
-    let into = c .before .before .before .before .before .before .before .before .before .before .before .before .before .before .before .before .before .before in
-    let ms = c .before .before .before .before .before .before .before .before .before .before .before .before .before .before .before .before .before .before .before .before in
-    let ns = c .before .before .before .before .before .before .before .before .before .before .before .before .before .before .before .before .before .before .before .before .before .before .before in
-    let touch = c .before .before .before .before .before .before .before .before .before .before .before .before .before .before .before .before .before .before .before .before .before .before .before .before .before .before .before in
-    let e = c .before .before .before .before .before .before .before .before .before .before .before .before .before .before .before .before .before .before .before .before .before .before .before .before .before .before .before .before .before .before .before .before in (
-      removed-book (now (e .args .book)) (e .pre .0) (e .pre .1) (e .args .n) (touch .touch .ensures) (ns .nodes-within .result) (ms .machines-within .result)
-          (ns .nodes-within .ensures) (ms .machines-within .ensures) (into .clear-into .ensures) (nodes-gone .clear-nodes .ensures) (machines-gone .clear-machines .ensures),
-      removed-sheet (now (e .args .book)) (e .pre .0) (e .pre .1) (e .args .n) (touch .touch .ensures) (ns .nodes-within .result) (ms .machines-within .result)
-          (ns .nodes-within .ensures) (ms .machines-within .ensures) (into .clear-into .ensures) (nodes-gone .clear-nodes .ensures) (machines-gone .clear-machines .ensures),
-      removed-rows (now (e .args .book)) (e .pre .0) (e .pre .1) (e .args .n) (touch .touch .ensures) (ns .nodes-within .result) (ms .machines-within .result)
-          (ns .nodes-within .ensures) (ms .machines-within .ensures) (into .clear-into .ensures) (nodes-gone .clear-nodes .ensures) (machines-gone .clear-machines .ensures),
-    )
+    let nodes-gone = machines-gone .before .before .before .before .before .before .before .before in
+    let into = nodes-gone .before .before .before .before .before .before in
+    let ms = into .before .before in
+    let ns = ms .before .before .before in
+    let touch = ns .before .before .before .before in
+    let e = touch .before .before .before .before .before in
+    remove-done (e .pre) (touch .touch .ensures) (ns .nodes-within .result) (ms .machines-within .result) (ns .nodes-within .ensures)
+    (ms .machines-within .ensures) (into .clear-into .ensures) (nodes-gone .clear-nodes .ensures) (machines-gone .clear-machines .ensures)
 
 pub do-remove-spec : {M : Type 1} → statement M
 do-remove-spec =
