@@ -62,7 +62,8 @@ ones k i h = eq-eqb (getD (replicate k 1) i 0) 1 (getD-replicate k i 1 0 h)
 
 -- every node and every machine falls out of use
 pub all-empty : (b xs ys : List ℕ) → ((k : ℕ) → k < nodes → chosen xs k ≡ true) → ((k : ℕ) → k < machines → chosen ys k ≡ true)
-    → {s b₁ s₁ b₂ s₂ : List ℕ} → Marks s → NodesGone b s b₁ s₁ (upTo (chosen xs) nodes) → MachinesGone b₁ s₁ b₂ s₂ (upTo (chosen ys) machines)
+    → {s b₁ s₁ b₂ s₂ : List ℕ} → Marks s → NodesGone b s b₁ s₁ (upTo (chosen xs) nodes)
+    → MachinesGone b₁ s₁ b₂ s₂ (upTo (chosen ys) machines)
     → Emptied (treeOf b .root) b₂ s₂
 all-empty b xs ys every-node every-machine {s} {b₁} marks nodes-gone machines-gone =
     let first = nodes-all (chosen xs) (λ k. true) every-node b nodes-gone in

@@ -156,13 +156,15 @@ module _ (g : ℕ → Bool) (i : ℕ) where
 
 machine-one : (r : Rows) (i : ℕ) → withMark (withBlankMachine r i) i false ≡ withoutMachineRows r (λ k. eqb k i)
 machine-one r i =
-    same-rows _ _ (λ m. refl) (λ m x. spread (eqb m i) (r .exit m) x) (λ m x. spread (eqb m i) (r .last m) x) (λ n. refl) (λ n. refl) (λ n. refl)
+    same-rows _ _ (λ m. refl) (λ m x. spread (eqb m i) (r .exit m) x) (λ m x. spread (eqb m i) (r .last m) x)
+    (λ n. refl) (λ n. refl) (λ n. refl)
 
 module _ (g : ℕ → Bool) (i : ℕ) where
   -- at first
   pub machines-none : (book sheet : List ℕ) → Sized book sheet → MachinesGone book sheet book sheet (upTo g 0)
   machines-none book sheet sized =
-      left-same (left-idle book sheet sized) (ap (withoutMachines (treeOf book)) (none-up g)) (ap (withoutMachineRows (rowsOf sheet)) (none-up g))
+      left-same (left-idle book sheet sized) (ap (withoutMachines (treeOf book)) (none-up g))
+      (ap (withoutMachineRows (rowsOf sheet)) (none-up g))
 
   -- machine i does not pass
   pub machine-stays : (book sheet : List ℕ) → Sized book sheet → g i ≡ false → MachinesGone book sheet book sheet (only g i)
@@ -216,7 +218,8 @@ module _ (g h : ℕ → Bool) where
       (λ n. same-under nodes n g h (number (nodeWord b n 1)) none agree) (λ m. refl) (λ m. refl)
       (λ n x. same-under nodes n g h (under commands x (transitionOf (nodeWord b n (2 + x)))) none agree))
       (same-rows _ _ (λ m. refl) (λ m x. refl) (λ m x. refl) (λ n. same-under nodes n g h (costOf (nodeRowWord s n 0)) none agree)
-      (λ n. same-under nodes n g h (number (nodeRowWord s n 1)) none agree) (λ n. same-under nodes n g h (number (nodeRowWord s n 2)) none agree))
+      (λ n. same-under nodes n g h (number (nodeRowWord s n 1)) none agree)
+      (λ n. same-under nodes n g h (number (nodeRowWord s n 2)) none agree))
 
   pub machines-all : ((k : ℕ) → k < machines → g k ≡ h k) → (b : List ℕ) {s b′ s′ : List ℕ} → MachinesGone b s b′ s′ (upTo g machines)
       → MachinesGone b s b′ s′ h
@@ -227,4 +230,5 @@ module _ (g h : ℕ → Bool) where
       (λ m. same-under machines m g h (number (machineWord b m 0)) none agree) (λ n x. refl))
       (same-rows _ _ (λ m. same-under machines m g h (eqb (machineRowWord s m 0) 1) false agree)
       (λ m x. same-under machines m g h (under commands x (costOf (machineRowWord s m (1 + x)))) none agree)
-      (λ m x. same-under machines m g h (under commands x (number (machineRowWord s m (17 + x)))) none agree) (λ n. refl) (λ n. refl) (λ n. refl))
+      (λ m x. same-under machines m g h (under commands x (number (machineRowWord s m (17 + x)))) none agree)
+      (λ n. refl) (λ n. refl) (λ n. refl))

@@ -37,7 +37,8 @@ module _ (t : Tree) (touched gone held : ℕ → Bool) (r : Rows) where
   mark true o s = refl
   mark false o s = refl
 
-  row : (b : Bool) (o : Option ℕ) (a : Bool) (v : Option ℕ) → unless b (unless (not (isSome o) || a) v) ≡ unless (not (isSome (unless b o)) || a) v
+  row : (b : Bool) (o : Option ℕ) (a : Bool) (v : Option ℕ)
+      → unless b (unless (not (isSome o) || a) v) ≡ unless (not (isSome (unless b o)) || a) v
   row true o a v = refl
   row false o a v = refl
 
@@ -60,7 +61,8 @@ module _ {b s : List ℕ} {n : ℕ} (ready : Ready b s (Edit.remove n)) where
   remove-taken = taken-remove (treeOf b) n (ready .taken)
 
   module _ {s₁ : List ℕ} (touched : LeavesStaleOver (treeOf b) n s s₁) (gone held : List ℕ)
-      (nodes-listed : Listed nodes nodes (within (treeOf b) n) gone) (machines-listed : Listed machines machines (heldBy (treeOf b) gone) held)
+      (nodes-listed : Listed nodes nodes (within (treeOf b) n) gone)
+      (machines-listed : Listed machines machines (heldBy (treeOf b) gone) held)
       {b₁ : List ℕ} (into : Holds b₁ (withoutInto (treeOf b) n)) {b₂ s₂ : List ℕ}
       (nodes-gone : NodesGone b₁ s₁ b₂ s₂ (upTo (chosen gone) nodes)) {b₃ s₃ : List ℕ}
       (machines-gone : MachinesGone b₂ s₂ b₃ s₃ (upTo (chosen held) machines)) where

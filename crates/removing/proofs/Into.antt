@@ -68,17 +68,16 @@ put-twice {A} f i v w = fun-ext λ k. go (eqb k i) (f k)
 -- the cost of a book's transition is in range, whatever the words are
 cost-small : (ws : List ℕ) (k x : ℕ) (a : Transition) → treeOf ws .transition k x ≡ some a → a .cost < costs
 unfolding treeOf under transitionOf
-cost-small ws k x a e = go (ltb k nodes) (ltb x commands) (eqb (nodeWord ws k (2 + x)) blank) e
+cost-small ws k x a e = go (nodeWord ws k (2 + x)) (ltb k nodes) (ltb x commands) (eqb (nodeWord ws k (2 + x)) blank) e
   where
-    go : (b c d : Bool)
-        → cond b (cond c (cond d none (some (record { target = nodeWord ws k (2 + x) / costs; cost = nodeWord ws k (2 + x) % costs }))) none) none ≡ some a
+    go : (w : ℕ) (b c d : Bool) → cond b (cond c (cond d none (some (record { target = w / costs; cost = w % costs }))) none) none ≡ some a
         → a .cost < costs
-    go true true true e = absurd (none-some refl e)
-    go true true false e =
-        let same : nodeWord ws k (2 + x) % costs ≡ a .cost = ap (λ (v : Transition). v .cost) (some-same refl e) in
+    go w true true true e = absurd (none-some refl e)
+    go w true true false e =
+        let same : w % costs ≡ a .cost = ap (λ (v : Transition). v .cost) (some-same refl e) in
         omega arith
-    go true false d e = absurd (none-some refl e)
-    go false c d e = absurd (none-some refl e)
+    go w true false d e = absurd (none-some refl e)
+    go w false c d e = absurd (none-some refl e)
 
 module _ (ws : List ℕ) (k x n : ℕ) (hn : n < nodes) {w : ℕ} (told : w ≡ transitionWord (treeOf ws .transition k x)) where
   into-split : (o : Option Transition) → treeOf ws .transition k x ≡ o → w ≡ transitionWord o
@@ -91,7 +90,8 @@ module _ (ws : List ℕ) (k x n : ℕ) (hn : n < nodes) {w : ℕ} (told : w ≡ 
       ((λ ne. rw (ne-eqb (a .target) n (λ same. ne (target ∙ same)))), λ hit. rw (eq-eqb (a .target) n (sym target ∙ hit)))
 
   -- it leads elsewhere: it stays
-  pub into-stays : length ws ≡ bookLength → (w / 65536 ≡ n → ⊥) → Holds ws (withTransition (treeOf ws) k x (notInto n (treeOf ws .transition k x)))
+  pub into-stays : length ws ≡ bookLength → (w / 65536 ≡ n → ⊥)
+      → Holds ws (withTransition (treeOf ws) k x (notInto n (treeOf ws .transition k x)))
   unfolding withTransition
   into-stays l ne =
       let kept = into-split (treeOf ws .transition k x) refl told .0 ne in
@@ -196,7 +196,8 @@ module _ (ws : List ℕ) (n : ℕ) where
         tree =
             then .tree
             ∙ ap (withTransitions (treeOf ws))
-            (ap (λ (row : ℕ → Option Transition). put (grown grid goal i) i (λ x. notInto n (row x))) (grown-at grid goal i) ∙ grown-more grid goal i);
+            (ap (λ (row : ℕ → Option Transition). put (grown grid goal i) i (λ x. notInto n (row x))) (grown-at grid goal i)
+            ∙ grown-more grid goal i);
       }
 
   pub into-all : (i : ℕ) {now : List ℕ} → i ≡ nodes → Holds now (intoTo ws n i) → Holds now (withoutInto (treeOf ws) n)

@@ -31,7 +31,8 @@ loop-again c =
     let w = c .before .before in
     let l = w .before .before .before in
     let (long, marks) =
-    marks-more (l .loop .m) (l .loop .sheet) (l .loop .inv .1) (w .before .before .loop-test .taken) (l .loop .inv .2) (w .set-machine-row-word .ensures) in
+    marks-more (l .loop .m) (l .loop .sheet) (l .loop .inv .1) (w .before .before .loop-test .taken) (l .loop .inv .2)
+    (w .set-machine-row-word .ensures) in
     (omega arith, long, marks)
 
 same-length : tie.Need-same-length Inv-loop μ-loop

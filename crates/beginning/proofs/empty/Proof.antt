@@ -28,7 +28,8 @@ returns c =
     let ns = ms .before .before .before .before .before .before .before .before in
     let marks = ns .before .before .before .before .before .before in
     let e = marks .before .before .before .before in
-    all-empty (now (e .args .book)) (replicate nodes 1) (replicate machines 1) (ones nodes) (ones machines) (marks .clear-marks .ensures .1) (ns .clear-nodes .ensures)
+    all-empty (now (e .args .book)) (replicate nodes 1) (replicate machines 1) (ones nodes) (ones machines)
+    (marks .clear-marks .ensures .1) (ns .clear-nodes .ensures)
     (ms .clear-machines .ensures)
 
 pub empty-spec : {M : Type 1} → statement M

@@ -21,7 +21,7 @@ loop-holds c =
     (omega arith, machines-none (chosen (now (e .args .gone))) 0 (now (e .args .book)) (now (e .args .sheet)) (e .pre))
 
 drop-machine-if-requires : tie.Need-drop-machine-if-requires Inv-loop μ-loop
-drop-machine-if-requires c κs = (left-sized (c .before .before .before .loop .inv .1), c .before .before .loop-test .taken)
+drop-machine-if-requires c κs = (left-sized (c .before .before .before .loop .inv .1), omega arith)
 
 add-m : tie.Need-add-m Inv-loop μ-loop
 add-m c = omega arith
@@ -33,8 +33,10 @@ loop-again : tie.Need-loop-again Inv-loop μ-loop
 loop-again c =
     let d = c .before .before .before .before in
     let l = d .before .before .before .before in
-    let e = l .before .before .before in
-    (omega arith, machines-more (chosen (now (e .args .gone))) (l .loop .m) (now (e .args .book)) (l .loop .inv .1) (d .drop-machine-if .ensures))
+    let e = l .before .before .before in (
+      omega arith,
+      machines-more (chosen (now (e .args .gone))) (l .loop .m) (now (e .args .book)) (l .loop .inv .1) (d .drop-machine-if .ensures),
+    )
 
 same-length : tie.Need-same-length Inv-loop μ-loop
 same-length c = c .before .loop .inv .1 .book .length ∙ sym (c .before .before .before .before .pre .book)

@@ -21,7 +21,7 @@ loop-holds c =
     (omega arith, nodes-none (chosen (now (e .args .gone))) 0 (now (e .args .book)) (now (e .args .sheet)) (e .pre))
 
 drop-node-if-requires : tie.Need-drop-node-if-requires Inv-loop μ-loop
-drop-node-if-requires c κs = (left-sized (c .before .before .before .loop .inv .1), c .before .before .loop-test .taken)
+drop-node-if-requires c κs = (left-sized (c .before .before .before .loop .inv .1), omega arith)
 
 add-n : tie.Need-add-n Inv-loop μ-loop
 add-n c = omega arith

@@ -15,7 +15,8 @@ same-length c = search needs
 returns : tie.Need-returns
 returns c =
     let e = c .before .before .before .before in
-    into-stays (now (e .args .book)) (e .args .k) (e .args .x) (e .args .n) (e .pre .3) (c .before .transition .ensures) (e .pre .0) (c .if1 .taken)
+    into-stays (now (e .args .book)) (e .args .k) (e .args .x) (e .args .n) (e .pre .3) (c .before .transition .ensures)
+    (e .pre .0) (c .if1 .taken)
 
 set-transition-requires : tie.Need-set-transition-requires
 set-transition-requires c κs = search needs
@@ -29,7 +30,8 @@ returns-2 c =
     let store = c .before .before in
     let w = store .before .before .before in
     let e = w .before .before .before in
-    into-goes (now (e .args .book)) (e .args .k) (e .args .x) (e .args .n) (e .pre .3) (w .transition .ensures) (store .before .before .if1 .left)
+    into-goes (now (e .args .book)) (e .args .k) (e .args .x) (e .args .n) (e .pre .3) (w .transition .ensures)
+    (store .before .before .if1 .left)
     (store .set-transition .ensures)
 
 pub clear-into-at-spec : {M : Type 1} → statement M

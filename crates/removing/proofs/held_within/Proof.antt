@@ -27,7 +27,8 @@ element-copy-out-result c =
 returns-2 : tie.Need-returns-2
 returns-2 c =
     let e = c .before .before .before .before in
-    held-told (now (e .args .book)) (e .pre .0) (now (e .args .list)) (e .args .m) (c .before .before .holder .ensures) (c .before .if1 .left)
+    held-told (now (e .args .book)) (e .pre .0) (now (e .args .list)) (e .args .m) (c .before .before .holder .ensures)
+    (c .before .if1 .left)
 
 pub held-within-spec : {M : Type 1} → statement M
 held-within-spec =

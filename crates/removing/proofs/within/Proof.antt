@@ -55,7 +55,8 @@ returns-3 c =
 
 -- the next turn
 next : (c : tie.Else3 Inv-loop μ-loop) → Up (treeOf (now (c .before .before .before .before .before .before .before .args .book)))
-    (c .before .before .before .before .before .before .before .args .n) (c .before .before .before .before .before .before .before .args .d)
+    (c .before .before .before .before .before .before .before .args .n)
+    (c .before .before .before .before .before .before .before .args .d)
     (c .before .before .before .before .before .loop .k) (c .before .holder .result)
 next c =
     let h = c .before in
