@@ -1,0 +1,11 @@
+pub mod Bounds
+pub mod Filling
+pub mod Certified
+pub mod Row
+pub mod Gathering
+pub mod Tabling
+pub mod Nodes
+pub mod Exits
+pub mod Machine
+pub mod Levels
+pub mod Order

@@ -1,0 +1,88 @@
+-- `refreshing::find` meets its contract: the machine's nodes get their places, the tables their moves, and the rest is the search's. Assumes nothing.
+use native.Mathlib.Omega.{arith}
+use Rattle.refreshing.proofs.Machine.{start-told, search-ready, searched-found}
+use borrow.Author.Needs.{needs}
+use Rattle.refreshing.proofs.find.Statement.{statement}
+use Rattle.refreshing.proofs.find.Tie as tie
+
+gather-requires : tie.Need-gather-requires
+gather-requires c κs = search needs
+
+tables-requires : tie.Need-tables-requires
+tables-requires c κs = search needs
+
+start-requires : tie.Need-start-requires
+start-requires c κs = search needs
+
+word-requires : tie.Need-word-requires
+word-requires c κs =
+    let p = c .before .before .before .before .before .before .before .before .before .before .before .before .before .before .before .before .before .before .before .before .before .before .before .before .before .before .before .pre in
+    omega (arith, start-told (p .0 .sound) (p .3) (c .start .ensures) .1, c .before .before .before .before .before .before .before .before .before .before .before .before .before .before .before .gather .ensures .places-room)
+
+cast-search : tie.Need-cast-search
+cast-search c = search needs
+
+cast-search-2 : tie.Need-cast-search-2
+cast-search-2 c = search needs
+
+search-requires : tie.Need-search-requires
+search-requires c κs =
+    let p = c .before .before .before .before .before .before .before .before .before .before .before .before .before .before .before .before .before .before .before .before .before .before .before .before .before .before .before .before .before .before .before .before .before .pre in
+    let tabled = c .before .before .before .before .before .before .before .before .before .before .before .before .tables in
+    let g = c .before .before .before .before .before .before .before .before .before .before .before .before .before .before .before .before .before .before .before .before .before .gather .ensures in
+    let room = p .7 in (
+      rw (c .before .before .before .before .before .word .ensures)
+          (search-ready (p .0 .sound) (p .1 .rows) (start-told (p .0 .sound) (p .3) (c .before .before .before .before .before .before .start .ensures) .0) (p .3) g
+          (record { target-room = omega (arith, tabled .kept .1 .1 .1 .1 .1 .1 .0, p .6); price-room = omega (arith, tabled .kept .1 .1 .1 .1 .1 .1 .1 .0, p .6) })
+          (tabled .ensures)),
+      record { dist-room = omega (arith, g .many, room); before-room = omega (arith, g .many, room); by-room = omega (arith, g .many, room) },
+    )
+
+same-length : tie.Need-same-length
+same-length c = search needs
+
+same-length-2 : tie.Need-same-length-2
+same-length-2 c = search needs
+
+same-length-3 : tie.Need-same-length-3
+same-length-3 c = search needs
+
+same-length-4 : tie.Need-same-length-4
+same-length-4 c = search needs
+
+same-length-5 : tie.Need-same-length-5
+same-length-5 c = search needs
+
+same-length-6 : tie.Need-same-length-6
+same-length-6 c = search needs
+
+same-length-7 : tie.Need-same-length-7
+same-length-7 c = search needs
+
+returns : tie.Need-returns
+returns c =
+    let kept = c .before .before .before .before .before .before .search .kept .1 .1 .1 .1 in
+    let room = c .before .before .before .before .before .before .before .before .before .before .before .before .before .before .before .before .before .before .before .before .before .before .before .before .before .before .before .before .before .before .before .before .before .before .before .before .before .before .before .before .pre .7 in
+    searched-found (c .before .before .before .before .before .before .before .before .before .before .before .before .before .before .before .before .before .before .before .before .before .before .before .before .before .before .before .before .gather .ensures) (c .before .before .before .before .before .before .before .before .before .before .before .before .before .before .before .before .before .before .before .tables .ensures) (c .before .before .before .before .before .before .before .before .before .before .before .before .before .start .ensures) (c .before .before .before .before .before .before .before .before .before .before .before .before .word .ensures)
+    (record { dist-room = omega (arith, kept .0, room); before-room = omega (arith, kept .1 .0, room); by-room = omega (arith, kept .1 .1 .0, room) })
+    (c .before .before .before .before .before .before .search .ensures)
+
+pub find-spec : {M : Type 1} → statement M
+find-spec =
+    tie.close
+    (tie.spec
+    gather-requires
+    tables-requires
+    start-requires
+    word-requires
+    cast-search
+    cast-search-2
+    search-requires
+    same-length
+    same-length-2
+    same-length-3
+    same-length-4
+    same-length-5
+    same-length-6
+    same-length-7
+    returns)

@@ -1,0 +1,104 @@
+-- `refreshing::tables` meets its contract: the entries passed have the moves of the nodes at their places. Assumes nothing.
+use mathlib.Core.Path.{sym, _∙_, ap}
+use Prim.Native.Nat.{_*_, _≤_, _-_}
+use native.Mathlib.Omega.{arith}
+use denote.Ref.{now}
+use Rattle.definitions.specs.Limits.{commands}
+use Rattle.definitions.specs.Book.{treeOf}
+use Rattle.definitions.specs.Sheet.{rowsOf}
+use Rattle.search.specs.Parts.{at}
+use Rattle.refreshing.proofs.Tabling.{TabledTo, tabled-none, tabled-more, tabled-all, gathered-placing}
+use Rattle.refreshing.proofs.tables.Statement.{statement}
+use Rattle.refreshing.proofs.tables.Tie as tie
+
+abbrev Inv-loop : tie.InvT-loop
+Inv-loop book sheet m k members places target₀ price₀ j₀ target price j =
+    (j ≤ commands * k) × TabledTo (treeOf book) (rowsOf sheet) (at members) (at places) j target price
+
+abbrev μ-loop : tie.MeasureT-loop
+μ-loop book sheet m k members places target₀ price₀ j₀ target price j = commands * k - j
+
+loop-holds : tie.Need-loop-holds Inv-loop μ-loop
+loop-holds c =
+    let e = c .before .before .before .before .before .before in
+    let a = e .args in
+    (omega arith, tabled-none (treeOf (now (a .book))) (rowsOf (now (a .sheet))) (at (now (a .members))) (at (now (a .places))) (e .pre .2))
+
+mul-loop : tie.Need-mul-loop Inv-loop μ-loop
+mul-loop c = omega (arith, c .before .before .before .before .before .before .before .pre .1 .many)
+
+word-requires : tie.Need-word-requires Inv-loop μ-loop
+word-requires c κs = omega (arith, c .before .before .before .before .before .before .before .before .pre .1 .many, c .before .before .before .before .before .before .before .before .pre .1 .members-room)
+
+table-entry-requires : tie.Need-table-entry-requires Inv-loop μ-loop
+table-entry-requires c κs =
+    let e = c .before .before .before .before .before .before .before .before .before in
+    (e .pre .0, gathered-placing (e .pre .0 .well-formed .sound) (e .pre .1) (omega arith) (c .word .ensures), omega arith)
+
+cast-target : tie.Need-cast-target Inv-loop μ-loop
+cast-target c = omega arith
+
+mul-target : tie.Need-mul-target Inv-loop μ-loop
+mul-target c = omega arith
+
+slice-write-target : tie.Need-slice-write-target Inv-loop μ-loop
+slice-write-target c = omega (arith, c .before .before .before .loop .inv .1 .room .target-room, c .before .before .before .before .before .before .before .before .before .before .pre .1 .many)
+
+cast-price : tie.Need-cast-price Inv-loop μ-loop
+cast-price c = omega arith
+
+mul-price : tie.Need-mul-price Inv-loop μ-loop
+mul-price c = omega arith
+
+slice-write-price : tie.Need-slice-write-price Inv-loop μ-loop
+slice-write-price c = omega (arith, c .before .before .before .loop .inv .1 .room .price-room, c .before .before .before .before .before .before .before .before .before .before .pre .1 .many)
+
+add-j : tie.Need-add-j Inv-loop μ-loop
+add-j c = omega (arith, c .before .before .before .before .before .before .before .before .before .before .pre .1 .many)
+
+loop-less : tie.Need-loop-less Inv-loop μ-loop
+loop-less c = omega arith
+
+loop-again : tie.Need-loop-again Inv-loop μ-loop
+loop-again c =
+    let l = c .before .before .before in
+    let e = c .before .before .before .before .before .before .before .before .before .before in
+    let a = e .args in (
+      omega arith,
+      tabled-more (treeOf (now (a .book))) (rowsOf (now (a .sheet))) (at (now (a .members))) (at (now (a .places))) (c .table-entry .result .target)
+          (c .table-entry .result .price) (l .loop .inv .1) (omega (arith, e .pre .1 .many)) (rw (c .before .word .ensures) at (c .table-entry .ensures)),
+    )
+
+same-length : tie.Need-same-length Inv-loop μ-loop
+same-length c = c .before .loop .inv .1 .room .target-room ∙ sym (c .before .before .before .before .before .before .before .before .pre .2 .target-room)
+
+same-length-2 : tie.Need-same-length-2 Inv-loop μ-loop
+same-length-2 c = c .before .loop .inv .1 .room .price-room ∙ sym (c .before .before .before .before .before .before .before .before .pre .2 .price-room)
+
+returns : tie.Need-returns Inv-loop μ-loop
+returns c =
+    let a = c .before .before .before .before .before .before .before .before .args in
+    tabled-all (treeOf (now (a .book))) (rowsOf (now (a .sheet))) (at (now (a .members))) (at (now (a .places))) (c .before .loop .inv .1) (c .loop-test .left)
+
+pub tables-spec : {M : Type 1} → statement M
+tables-spec =
+    tie.close
+    (tie.spec
+    Inv-loop
+    μ-loop
+    loop-holds
+    mul-loop
+    word-requires
+    table-entry-requires
+    cast-target
+    mul-target
+    slice-write-target
+    cast-price
+    mul-price
+    slice-write-price
+    add-j
+    loop-less
+    loop-again
+    same-length
+    same-length-2
+    returns)
