@@ -91,7 +91,8 @@ module _ {t : Tree} (sound : Sound t) {q : Rows} {m s : ℕ} (used : t .start m 
       let (b, has, same) =
       bind-some (move t q (members i) x) (λ b. some (record { node = places (b .node); cost = b .cost }))
       (sym (table i x small range) ∙ e) in
-      let at : _≡_ {A = Arrival} (record { node = places (b .node); cost = b .cost }) (record { node = places n; cost = c }) = some-same refl same in
+      let at : _≡_ {A = Arrival} (record { node = places (b .node); cost = b .cost }) (record { node = places n; cost = c }) =
+      some-same refl same in
       let place : places (b .node) ≡ places n = ap (λ (a : Arrival). a .node) at in
       let node : b .node ≡ n =
       sym (g .found (b .node) (move-owned sound q (members i) x (g .owned i small) has) .1) ∙ ap members place ∙ g .found n own .1 in
@@ -134,7 +135,8 @@ module _ {t : Tree} (sound : Sound t) {q : Rows} {m s : ℕ} (used : t .start m 
       let led = cert .named i c (name-at cost name) cost in
       let same : v ≡ led .node = some-same name (led .names-node) in
       let on : iterate before j (led .node) ≡ some (places s) = rw same at rest in
-      let here : q .before (members i) ≡ some (members (led .node)) = filled .before i small ∙ ap (λ (o : Option ℕ). o >>= λ v. some (members v)) (led .names-node) in
+      let here : q .before (members i) ≡ some (members (led .node)) =
+      filled .before i small ∙ ap (λ (o : Option ℕ). o >>= λ v. some (members v)) (led .names-node) in
       rw here (chain-at j (led .node) (led .node-cost) (led .node-range) (led .reached) on)
 
   -- ---- the exits
@@ -143,7 +145,14 @@ module _ {t : Tree} (sound : Sound t) {q : Rows} {m s : ℕ} (used : t .start m 
       (bound : (i x e : ℕ) → i < k → x < commands → nodeExit t q (members i) x ≡ some e → e ≤ largestPlanCost) where
     -- a way out costs less than the word for none
     way-small : (i x : ℕ) {d : ℕ} → i < k → x < commands → Way t q (members i) (distance i) x d → d < unreached
-    way-small i x small range way = omega (arith, cert .bound i (way .node-cost) (way .reached), bound i x (way .node-exit) small range (way .exits), g .small, way .exact)
+    way-small i x small range way =
+        omega (
+          arith,
+          cert .bound i (way .node-cost) (way .reached),
+          bound i x (way .node-exit) small range (way .exits),
+          g .small,
+          way .exact,
+        )
 
     exit-relaxed : (n c x e : ℕ) → t .owner n ≡ some m → q .cost n ≡ some c → x < commands → counting t n x ≡ none → nodeExit t q n x ≡ some e
         → (d : ℕ) × (q .exit m x ≡ some d) × (d ≤ c + e)
@@ -171,7 +180,10 @@ module _ {t : Tree} (sound : Sound t) {q : Rows} {m s : ℕ} (used : t .start m 
           node = members i;
           node-cost = way .node-cost;
           node-exit = way .node-exit;
-          last = fill .says-last ∙ number-is (fill .node) (omega (arith, sound .node-range (members i) m (g .owned i small))) ∙ ap {B = Option ℕ} some node;
+          last =
+              fill .says-last
+              ∙ number-is (fill .node) (omega (arith, sound .node-range (members i) m (g .owned i small)))
+              ∙ ap {B = Option ℕ} some node;
           owned = g .owned i small;
           free = way .free;
           reached = filled .cost i small ∙ way .reached;

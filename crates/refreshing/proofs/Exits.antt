@@ -1,30 +1,53 @@
 -- The exits of a machine: what leaving from one node costs, the cheapest way out over the places, and the row written command by command.
 -- Assumes nothing.
-use mathlib.Core.Path.{_≡_, refl, sym, _∙_, ap, ap₂}
+use mathlib.Core.Path.{_≡_, refl, sym, _∙_, ap}
 use mathlib.Core.Logic.{⊎-elim}
 use mathlib.Core.Option.{Option, none, some}
 use mathlib.Core.List.{List}
 use Prim.Native.Nat.{ℕ, _+_, _≤_, _<_}
 use native.Mathlib.Omega.{arith}
 use lib.ListN.{length}
-use Rattle.definitions.specs.Limits.{nodes, commands, absent, blank, sheetLength, largestPlanCost}
-use Rattle.definitions.specs.Tree.{Tree, Transition, Sound}
+use Rattle.definitions.specs.Limits.{commands, absent, blank, sheetLength}
+use Rattle.definitions.specs.Tree.{Tree, Sound}
 use Rattle.definitions.specs.Step.{counting}
 use Rattle.definitions.specs.Book.{number, transitionWord}
 use Rattle.definitions.specs.Sheet.{Rows, costOf, rowsOf}
 use Rattle.definitions.specs.Truth.{nodeExit}
-use Rattle.definitions.proofs.Options.{none-some, some-same, equal-or-not, put-same, put-other}
+use Rattle.definitions.proofs.Options.{none-some, some-same, present, equal-or-not, put-same, put-other}
 use Rattle.definitions.proofs.Words.{no-transition, some-transition}
 use Rattle.search.specs.Search.{unreached, reached}
 use Rattle.search.specs.Parts.{at}
 use Rattle.sheet.specs.Fields.{Leaves, withExit, withLast}
 use Rattle.sheet.proofs.Stores.{leaves-then}
-use Rattle.truesheet.specs.Meaning.{exitLimit}
-use Rattle.refreshing.specs.Parts.{ExitsKept, CostFits, distances, Way, WayCosts, Cheapest, ExitFilled, IsNear, Near, NearOut, ExitWritten, ExitsWritten}
+use Rattle.refreshing.specs.Parts.{ExitsKept, CostFits, distances, largestDistance, Way, LeavesAt, WayCosts, Cheapest}
+use Rattle.refreshing.specs.Parts.{IsNear, NearOut, ExitWritten, ExitsWritten}
 use Rattle.refreshing.proofs.Certified.{reached-is, reached-some}
 use Rattle.refreshing.proofs.Row.{kept-exit, cheapest-kept}
 
 -- ---- what leaving from one node costs
+
+-- a node that is reached is near
+pub near-there : {d : ℕ} → IsNear d → (d ≡ unreached → ⊥) → d ≤ largestDistance
+near-there {d} far there = far .near d (reached-is d there)
+
+-- a node that is never left
+pub leave-never : (d w : ℕ) {o : Option ℕ} → o ≡ none → LeavesAt o d w unreached
+leave-never d w none-there = record { never = λ e. refl; costs = λ e there. absurd (none-some none-there there) }
+
+-- a node that is left
+pub leave-costs : {o : Option ℕ} {d e w c : ℕ} → o ≡ some e → c ≡ d + e + w → c < unreached → LeavesAt o d w c
+leave-costs exit sum small =
+    record { never = λ off. absurd (none-some off exit); costs = λ e there. (omega (arith, some-same exit there), small) }
+
+module _ {o : Option ℕ} {d w c : ℕ} (left : LeavesAt o d w c) where
+  -- the word for none says that it is never left
+  pub leave-none : c ≡ unreached → o ≡ none
+  leave-none e = ⊎-elim (λ off. off) (λ (k, there). absurd (omega (arith, left .costs k there .1))) (present o)
+
+  -- and another word what it costs
+  pub leave-some : (c ≡ unreached → ⊥) → (e : ℕ) × (o ≡ some e) × (c ≡ d + e + w)
+  leave-some other =
+      ⊎-elim (λ off. absurd (other (left .never off))) (λ (k, there). (k, there, left .costs k there .0)) (present o)
 
 -- nothing is a way where there is none
 no-way : {t : Tree} {r : Rows} {n x : ℕ} {o : Option ℕ} → ((d : ℕ) → Way t r n o x d → ⊥) → WayCosts t r n o x unreached
@@ -40,36 +63,34 @@ module _ {t : Tree} (r : Rows) (n x d : ℕ) where
   unfolding counting
   way-taken sound says there = no-way (λ c way. none-some (way .free) (some-transition t sound n x says there))
 
-  -- a node that is never left
-  pub way-never : nodeExit t r n x ≡ none → WayCosts t r n (reached d) x unreached
-  way-never e = no-way (λ c way. none-some e (way .exits))
-
-  -- a node that is left
-  pub way-costs : {w e : ℕ} → Sound t → IsNear d → (d ≡ unreached → ⊥) → w ≡ transitionWord (counting t n x) → w ≡ blank
-      → nodeExit t r n x ≡ some e → e < exitLimit → WayCosts t r n (reached d) x (d + e)
+  -- a node without one: by its own exit cost
+  pub way-left : {w c : ℕ} → Sound t → IsNear d → (d ≡ unreached → ⊥) → w ≡ transitionWord (counting t n x) → w ≡ blank
+      → LeavesAt (nodeExit t r n x) d 0 c → WayCosts t r n (reached d) x c
   unfolding counting
-  way-costs {w} {e} sound far there says free exit small =
-      let is : reached d ≡ some d = reached-is d there in
-      let near = far .near d is in
-      record {
-        top = omega arith;
-        way = λ less. record {
-          node-cost = d;
-          node-exit = e;
-          reached = is;
-          free = no-transition t sound n x says free;
-          exits = exit;
-          exact = refl;
-        };
-        only = λ c way.
-            let same : d ≡ way .node-cost = some-same is (way .reached) in
-            let out : e ≡ way .node-exit = some-same exit (way .exits) in
-            omega (arith, way .exact);
-      }
+  way-left {w} {c} sound far there says free left = go (nodeExit t r n x) refl
+    where
+      is : reached d ≡ some d
+      is = reached-is d there
 
--- both together fit a word of 64 bits
-pub way-fits : (d : ℕ) {e : ℕ} → IsNear d → (d ≡ unreached → ⊥) → e < exitLimit → d + e < unreached
-way-fits d far there small = omega (arith, far .near d (reached-is d there))
+      go : (o : Option ℕ) → nodeExit t r n x ≡ o → WayCosts t r n (reached d) x c
+      go none exit = rw (left .never exit) (no-way (λ e way. none-some exit (way .exits)))
+      go (some e) exit =
+          let (sum, small) = left .costs e exit in
+          record {
+            top = omega arith;
+            way = λ less. record {
+              node-cost = d;
+              node-exit = e;
+              reached = is;
+              free = no-transition t sound n x says free;
+              exits = exit;
+              exact = omega arith;
+            };
+            only = λ k way.
+                let same : d ≡ way .node-cost = some-same is (way .reached) in
+                let out : e ≡ way .node-exit = some-same exit (way .exits) in
+                omega (arith, way .exact);
+          }
 
 -- ---- the cheapest way out
 
@@ -119,7 +140,8 @@ module _ {t : Tree} {r : Rows} {members : ℕ → ℕ} {distance : ℕ → Optio
           never = best .never;
         }
 
-  pub cheapest-all : {j k cost node : ℕ} → Cheapest t r members distance x j cost node → j ≤ k → k ≤ j → Cheapest t r members distance x k cost node
+  pub cheapest-all : {j k cost node : ℕ} → Cheapest t r members distance x j cost node → j ≤ k → k ≤ j
+      → Cheapest t r members distance x k cost node
   cheapest-all {j} {k} best low high =
       let same : j ≡ k = omega arith in
       rw same at best

@@ -7,7 +7,7 @@ use Prim.Native.Nat.{ℕ, _+_, _≤_, _<_}
 use native.Mathlib.Omega.{arith}
 use lib.ListN.{length, set, length-set}
 use lib.Seq.{getD-set-same, getD-set-other}
-use Rattle.definitions.specs.Limits.{machines, nodes, absent}
+use Rattle.definitions.specs.Limits.{machines, nodes}
 use Rattle.definitions.specs.Tree.{Tree, Sound}
 use Rattle.definitions.specs.Book.{word}
 use Rattle.definitions.proofs.Options.{equal-or-not}
@@ -37,7 +37,8 @@ is-owned {o} e same small = present-word o e (omega arith) ∙ ap {B = Option �
 -- ---- the places so far
 
 -- none yet
-pub gathered-none : (t : Tree) (m : ℕ) {members places : List ℕ} → length members ≡ nodes → length places ≡ nodes → Gathered t m 0 0 members places
+pub gathered-none : (t : Tree) (m : ℕ) {members places : List ℕ} → length members ≡ nodes → length places ≡ nodes
+    → Gathered t m 0 0 members places
 gathered-none t m room places-room =
     record {
       members-room = room;

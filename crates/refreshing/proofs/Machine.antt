@@ -1,13 +1,13 @@
 -- One machine filled: what the search found can be written, and once it is written the sheet is true with the machine's row filled.
 -- Assumes nothing.
 use mathlib.Core.Path.{_≡_, refl, sym, _∙_, ap, subst}
-use mathlib.Core.Bool.{true, false}
+use mathlib.Core.Bool.{false}
 use mathlib.Core.Option.{Option, none, some}
 use mathlib.Core.List.{List}
-use Prim.Native.Nat.{ℕ, _+_, _*_, _≤_, _<_}
+use Prim.Native.Nat.{ℕ, _<_}
 use native.Mathlib.Omega.{arith}
 use lib.ListN.{length}
-use Rattle.definitions.specs.Limits.{nodes, commands, absent, blank}
+use Rattle.definitions.specs.Limits.{nodes, commands}
 use Rattle.definitions.specs.Tree.{Tree, Sound}
 use Rattle.definitions.specs.Book.{word, number}
 use Rattle.definitions.specs.Sheet.{Rows, rowsOf}
@@ -18,7 +18,7 @@ use Rattle.search.specs.Search.{Certificate, Searched, Tables, reached, distanc
 use Rattle.search.specs.Parts.{at}
 use Rattle.sheet.specs.Fields.{Leaves, withMark}
 use Rattle.refreshing.specs.Parts.{Fills, ExitsKept, Members, Gathered, Tabled, TableRoom, Searches, FoundRoom}
-use Rattle.refreshing.specs.Parts.{NodesFilled, CostFits, PlaceFits, Writable, NodesWritten, ExitFilled, IsNear, NearOut, ExitsWritten}
+use Rattle.refreshing.specs.Parts.{NodesFilled, Writable, NodesWritten, ExitFilled, IsNear, NearOut, ExitsWritten}
 use Rattle.refreshing.specs.Refresh.{Fillable, Filled}
 use Rattle.refreshing.proofs.Gathering.{gathered-members}
 use Rattle.refreshing.proofs.Row.{kept-exit, cheapest-kept, exits-bound, moves-tables, searched-true}
@@ -58,7 +58,8 @@ start-told {t} sound {m} {w} able says =
 -- the search is done
 pub searched-found : {t : Tree} {r : Rows} {m k w source : ℕ} {members places target price dist before by dist′ before′ by′ : List ℕ}
     → Gathered t m nodes k members places → Tabled t r k (at members) (at places) target price → w ≡ word (t .start m) → source ≡ at places w
-    → FoundRoom dist′ before′ by′ → Searched k source target price dist before by dist′ before′ by′ → Searches t r m k members places target price dist′ before′ by′
+    → FoundRoom dist′ before′ by′ → Searched k source target price dist before by dist′ before′ by′
+    → Searches t r m k members places target price dist′ before′ by′
 unfolding word
 searched-found {t} {m = m} {k} {w} {source} {places = places} {target} {price} {dist′ = dist′} {before′} {by′} g table says here room done =
     record {
@@ -71,7 +72,8 @@ searched-found {t} {m = m} {k} {w} {source} {places = places} {target} {price} {
           (done .certificate);
     }
 
-module _ {t : Tree} (sound : Sound t) {r : Rows} {m s k : ℕ} (used : t .start m ≡ some s) {members places target price dist before by : List ℕ}
+module _ {t : Tree} (sound : Sound t) {r : Rows} {m s k : ℕ} (used : t .start m ≡ some s)
+    {members places target price dist before by : List ℕ}
     (found : Searches t r m k members places target price dist before by) where
   cert : Certificate k (at places s) (moveOf k target price) (distanceOf k dist) (nameOf k before) (nameOf k by)
   cert = found .certificate s used
@@ -137,7 +139,7 @@ pub machine-filled : {t : Tree} → Sound t → {m k : ℕ} {members places targ
     → Fillable t m (rowsOf a) → Searches t (rowsOf a) m k members places target price dist before by
     → NodesWritten k members dist before by a b → ExitsWritten t m k commands members dist b c → Leaves c d (withMark (rowsOf c) m false)
     → Filled t m a d
-machine-filled {t} sound {m} {k} {members} {places} {target} {price} {dist} {before} {by} {a} {b} {c} {d} holds able found nodes-done exits-done mark =
+machine-filled {t} sound {m} {k} {members} {places} {dist = dist} {before} {by} {a} {b} {c} {d} holds able found nodes-done exits-done mark =
     let group : Members t m k (at members) (at places) = gathered-members sound (found .gathered) in
     let (s, used) = able .used in
     let kept-b : ExitsKept m (rowsOf b) (rowsOf a) = record { same = λ p x other. sym (nodes-done .exit p x) } in

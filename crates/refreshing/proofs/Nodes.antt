@@ -1,13 +1,13 @@
 -- The rows of a machine's nodes are written, place by place. Assumes nothing.
 use mathlib.Core.Path.{_≡_, refl, sym, _∙_, ap, ap₂}
 use mathlib.Core.Logic.{⊎-elim}
-use mathlib.Core.Option.{Option, none, some}
+use mathlib.Core.Option.{Option, some}
 use mathlib.Core.List.{List}
 use Prim.Native.Nat.{ℕ, _+_, _≤_, _<_}
 use native.Mathlib.Omega.{arith}
 use lib.ListN.{length}
 use borrow.Author.Tests.{eq-eqb, ne-eqb}
-use Rattle.definitions.specs.Limits.{nodes, absent, blank, sheetLength}
+use Rattle.definitions.specs.Limits.{absent, blank, sheetLength}
 use Rattle.definitions.specs.Book.{number}
 use Rattle.definitions.specs.Sheet.{Rows, costOf, rowsOf}
 use Rattle.definitions.proofs.Options.{equal-or-not, put-same, put-other}
@@ -15,7 +15,7 @@ use Rattle.search.specs.Search.{unreached, reached}
 use Rattle.search.specs.Parts.{at}
 use Rattle.sheet.specs.Fields.{Leaves, withCost, withBefore, withBy}
 use Rattle.sheet.proofs.Stores.{leaves-then}
-use Rattle.refreshing.specs.Parts.{memberOf, CostFits, PlaceFits, withNode, Writable, NodesFilled, NodesWritten}
+use Rattle.refreshing.specs.Parts.{memberOf, CostFits, PlaceFits, withNode, Writable, NodesWritten}
 use Rattle.refreshing.proofs.Certified.{reached-is, number-is, number-none}
 
 -- ---- the words of one node

@@ -3,16 +3,16 @@
 use mathlib.Core.Path.{_≡_, refl, sym, _∙_, ap}
 use mathlib.Core.Logic.{⊎-elim}
 use mathlib.Core.Bool.{true, false}
-use mathlib.Core.Option.{Option, none, some}
+use mathlib.Core.Option.{some}
 use mathlib.Core.List.{List}
-use Prim.Native.Nat.{ℕ, suc, _+_, _-_, _≤_, _<_}
+use Prim.Native.Nat.{ℕ, _+_, _-_, _≤_, _<_}
 use native.Mathlib.Omega.{arith}
 use borrow.Author.Tests.{eq-eqb, ne-eqb}
 use Rattle.definitions.specs.Limits.{machines, levels}
 use Rattle.definitions.specs.Tree.{Tree, Sound}
 use Rattle.definitions.specs.Sheet.{Rows, rowsOf}
 use Rattle.definitions.specs.Truth.{TrueSheet}
-use Rattle.definitions.proofs.Options.{none-some, true-false, present, equal-or-not}
+use Rattle.definitions.proofs.Options.{true-false, present, equal-or-not}
 use Rattle.definitions.proofs.Words.{marks-words}
 use Rattle.sheet.specs.Fields.{Mark}
 use Rattle.refreshing.specs.Parts.{Fills}
@@ -81,7 +81,8 @@ module _ {t : Tree} {l m : ℕ} {sheet : List ℕ} (holds : TrueSheet t sheet) w
     step-fillable low level-is same =
         record {
           used =
-              ⊎-elim (λ off. absurd (true-false (marked mark is) (holds .rows .blanks .unused-stale m off))) (λ used. used) (present (t .start m));
+              ⊎-elim (λ off. absurd (true-false (marked mark is) (holds .rows .blanks .unused-stale m off))) (λ used. used)
+              (present (t .start m));
           stale = marked mark is;
           below = λ n b own down. low .fresh b (omega (arith, level-below sound own down));
         }

@@ -47,7 +47,8 @@ module _ {t : Tree} (sound : Sound t) {m : ℕ} {r q : Rows} (kept : ExitsKept m
   kept-move n x own range = same-move kept-moves n x own range
 
 -- a way out is one wherever the distance and the node's own exit are the same
-way-kept : {t : Tree} {r q : Rows} {n x d : ℕ} {o p : Option ℕ} → p ≡ o → nodeExit t q n x ≡ nodeExit t r n x → Way t r n o x d → Way t q n p x d
+way-kept : {t : Tree} {r q : Rows} {n x d : ℕ} {o p : Option ℕ} → p ≡ o → nodeExit t q n x ≡ nodeExit t r n x → Way t r n o x d
+    → Way t q n p x d
 way-kept far same way =
     record {
       node-cost = way .node-cost;
@@ -115,7 +116,8 @@ module _ {t : Tree} (sound : Sound t) {r : Rows} (rows : TrueRows t r) {m s : �
 
     -- the rows with what the search found are true
     pub searched-true : {q : Rows} {distance place command : ℕ → Option ℕ}
-        → Certificate k (places s) (moveOf k target price) distance place command → Fills t m r q → NodesFilled k members distance place command q
+        → Certificate k (places s) (moveOf k target price) distance place command → Fills t m r q
+        → NodesFilled k members distance place command q
         → ((x : ℕ) → x < commands → ExitFilled t r members distance k x (q .exit m x) (q .last m x)) → TrueRows t q
     searched-true {q} {distance} cert fills filled exits =
         let kept : ExitsKept m r q = record { same = fills .exit } in

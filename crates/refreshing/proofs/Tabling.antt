@@ -1,16 +1,15 @@
 -- The tables of a machine's moves, entry by entry. Assumes nothing.
-use mathlib.Core.Path.{_≡_, refl, sym, _∙_, ap, subst}
+use mathlib.Core.Path.{_≡_, refl, sym, _∙_, ap, ap₂}
 use mathlib.Core.Logic.{⊎-elim}
 use mathlib.Core.Option.{Option, none, some}
 use mathlib.Core.List.{List}
 use Prim.Native.Nat.{ℕ, _+_, _*_, _/_, _%_, _≤_, _<_}
 use native.Mathlib.Omega.{arith}
-use lib.ListN.{length, set, length-set}
-use Rattle.definitions.specs.Basics.{_>>=_}
+use lib.ListN.{set, length-set}
 use Rattle.definitions.specs.Limits.{nodes, commands, costs, absent, blank}
 use Rattle.definitions.specs.Tree.{Tree, Transition, Sound}
-use Rattle.definitions.specs.Step.{counting, Arrival}
-use Rattle.definitions.specs.Book.{number, transitionWord}
+use Rattle.definitions.specs.Step.{counting}
+use Rattle.definitions.specs.Book.{transitionWord}
 use Rattle.definitions.specs.Sheet.{Rows}
 use Rattle.definitions.specs.Truth.{nodeExit, move}
 use Rattle.definitions.proofs.Options.{equal-or-not}
@@ -66,12 +65,13 @@ module _ {t : Tree} (sound : Sound t) (r : Rows) (places : List ℕ) (n x : ℕ)
     target-owner = let (m, own, own-target) = sound .transition-owned n x _ has in own-target ∙ sym own
 
     -- a move
-    pub entry-costs : Placing t places n → {e v : ℕ} → nodeExit t r n x ≡ some e → v ≡ at places (w / costs)
-        → entryMove v (e + w % costs) ≡ placed (at places) (move t r n x)
-    entry-costs placing {e} {v} exit at-v =
+    pub entry-costs : Placing t places n → {e v c : ℕ} → nodeExit t r n x ≡ some e → v ≡ at places (w / costs) → c ≡ 0 + e + w % costs
+        → entryMove v c ≡ placed (at places) (move t r n x)
+    entry-costs placing {e} {v} {c} exit at-v sum =
         let small = placing .small (w / costs) target-owner in
+        let same : c ≡ e + w % costs = omega arith in
         rw (move-by t r n x has exit)
-        (entry-some v (e + w % costs) (omega arith) ∙ ap (λ (u : ℕ). some (record { node = u; cost = e + w % costs })) at-v)
+        (entry-some v c (omega arith) ∙ ap₂ (λ (u k : ℕ). some (record { node = u; cost = k })) at-v same)
 
 -- a node with a place is in range
 pub placing-range : {t : Tree} → Sound t → {places : List ℕ} {n : ℕ} → Placing t places n → n < nodes

@@ -1,5 +1,5 @@
--- What the parts of a refresh leave: the nodes of one machine at places 0 to k - 1, the tables of their moves, what a search over these places
--- finds, and the rows that are filled with it.
+-- What the parts of a refresh leave: the nodes of one machine at places 0 to k - 1, the tables of their moves, what a search over these
+-- places finds, and the rows that are filled with it.
 use mathlib.Core.Path.{_≡_}
 use mathlib.Core.Bool.{false}
 use mathlib.Core.Option.{Option, none, some}
@@ -140,6 +140,10 @@ pub record NodesWritten (i : ℕ) (members dist before by sheet after : List ℕ
 
 -- ---- the exits of one machine
 
+-- the largest distance over 256 nodes: 255 moves
+abbrev pub largestDistance : ℕ
+largestDistance = 255 * largestMove
+
 -- the distances that a list's words say
 abbrev pub distances : List ℕ → ℕ → Option ℕ
 distances dist i = reached (at dist i)
@@ -152,6 +156,11 @@ pub record Way (t : Tree) (r : Rows) (n : ℕ) (distance : Option ℕ) (x d : �
   pub free : counting t n x ≡ none
   pub exits : nodeExit t r n x ≡ some node-exit
   pub exact : d ≡ node-cost + node-exit
+
+-- c is what it costs to come to a node at cost d, leave it at its own exit cost and go on at cost w; the word for none where it has none
+pub record LeavesAt (exit : Option ℕ) (d w c : ℕ) : Type 0 where
+  pub never : exit ≡ none → c ≡ unreached
+  pub costs : (e : ℕ) → exit ≡ some e → (c ≡ d + e + w) × (c < unreached)
 
 -- d is what leaving by x from node n costs, or the word for none where n has no way out
 pub record WayCosts (t : Tree) (r : Rows) (n : ℕ) (distance : Option ℕ) (x d : ℕ) : Type 0 where
@@ -173,10 +182,6 @@ pub record ExitFilled (t : Tree) (r : Rows) (members : ℕ → ℕ) (distance : 
   pub cheapest : Cheapest t r members distance x k least node
   pub says-exit : exit ≡ reached least
   pub says-last : last ≡ number node
-
--- the largest distance over 256 nodes: 255 moves
-abbrev pub largestDistance : ℕ
-largestDistance = 255 * largestMove
 
 -- a distance is no more than the largest
 pub record IsNear (d : ℕ) : Type 0 where

@@ -1,20 +1,21 @@
 // Refresh (document 01, "Loading a stream"): every stale row is filled and is stale no more, the lowest machines first. The nodes of one
 // machine stand at places 0 to k - 1, and the least costs over them are one search's.
 ghost use mathlib.Core.Path.{_≡_};
-ghost use Prim.Native.Nat.{_+_, _-_, _<_};
+ghost use Prim.Native.Nat.{_+_, _-_, _≤_, _<_};
 ghost use lib.ListN.{length, getD};
 ghost use Rattle.definitions.specs.Limits.{machines, nodes, commands, sheetLength};
 ghost use Rattle.definitions.specs.Tree.{Tree};
 ghost use Rattle.definitions.specs.Book.{number, treeOf, WellFormed};
 ghost use Rattle.definitions.specs.Sheet.{Rows, costOf, rowsOf};
-ghost use Rattle.definitions.specs.Truth.{move, TrueSheet};
+ghost use Rattle.definitions.specs.Truth.{nodeExit, move, TrueSheet};
 ghost use Rattle.search.specs.Search.{reached};
 ghost use Rattle.search.specs.Parts.{at};
 ghost use Rattle.truesheet.specs.Fits.{Holding};
 ghost use Rattle.sheet.specs.Fields.{Leaves};
 ghost use Rattle.refreshing.specs.Parts.{Gathered, placed, entryMove, Placing, Tabled, TableRoom, Searches, FoundRoom};
 ghost use Rattle.refreshing.specs.Parts.{memberOf, withNode, CostFits, PlaceFits, Writable, NodesWritten};
-ghost use Rattle.refreshing.specs.Parts.{distances, WayCosts, Cheapest, IsNear, Near, NearOut, ExitWritten, ExitsWritten};
+ghost use Rattle.refreshing.specs.Parts.{distances, largestDistance, LeavesAt, WayCosts, Cheapest, IsNear, Near, NearOut};
+ghost use Rattle.refreshing.specs.Parts.{ExitWritten, ExitsWritten};
 ghost use Rattle.refreshing.specs.Refresh.{machineLevel, MachineLevels, Fillable, Filled, FreshBelow, StepFilled, FilledBelow};
 ghost use Rattle.refreshing.specs.Refresh.{Refreshes};
 use truesheet::OwnExit;
@@ -75,6 +76,17 @@ fn gather(book: &[u32], m: u32, members: &mut [u32], places: &mut [u32]) -> u32
     k
 }
 
+// What it costs to come to node n at cost d, leave it by command x and go on at cost w; UNREACHED where n is never left by x.
+fn leave(book: &[u32], sheet: &[u32], n: u32, x: u32, d: u64, w: u32) -> u64
+    requires { ⌜ Holding (now book) (now sheet) × (n < nodes) × (x < commands) × (d ≤ largestDistance) ⌝ }
+    ensures { λ r. ⌜ LeavesAt (nodeExit (treeOf (now (book .entry))) (rowsOf (now (sheet .entry))) n x) d w r ⌝ }
+{
+    let OwnExit::Costs(e) = truesheet::own_exit(book, sheet, n, x) else {
+        return search::UNREACHED;
+    };
+    d + e + wide(w)
+}
+
 // The move of node n for command x, as an entry of the tables.
 fn table_entry(book: &[u32], sheet: &[u32], places: &[u32], n: u32, x: u32) -> Entry
     requires { ⌜ Holding (now book) (now sheet) × Placing (treeOf (now book)) (now places) n × (x < commands) ⌝ }
@@ -88,15 +100,16 @@ fn table_entry(book: &[u32], sheet: &[u32], places: &[u32], n: u32, x: u32) -> E
             price: 0,
         };
     }
-    let OwnExit::Costs(e) = truesheet::own_exit(book, sheet, n, x) else {
+    let price = leave(book, sheet, n, x, 0, w % 65536);
+    if price == search::UNREACHED {
         return Entry {
             target: book::ABSENT,
             price: 0,
         };
-    };
+    }
     Entry {
         target: word(places, w / 65536),
-        price: e + wide(w % 65536),
+        price,
     }
 }
 
@@ -113,8 +126,8 @@ fn tables(
 )
     requires { ⌜ Holding (now book) (now sheet) × Gathered (treeOf (now book)) m nodes k (now members) (now places)
         × TableRoom (now target) (now price) ⌝ }
-    ensures { λ _. ⌜ Tabled (treeOf (now (book .entry))) (rowsOf (now (sheet .entry))) k (at (now (members .entry))) (at (now (places .entry)))
-        (now (target .exit)) (now (price .exit)) ⌝ }
+    ensures { λ _. ⌜ Tabled (treeOf (now (book .entry))) (rowsOf (now (sheet .entry))) k (at (now (members .entry)))
+        (at (now (places .entry))) (now (target .exit)) (now (price .exit)) ⌝ }
 {
     let mut j = 0u32;
     while j < 16 * k {
@@ -138,9 +151,9 @@ fn find(
     before: &mut [u32],
     by: &mut [u32],
 ) -> u32
-    requires { ⌜ WellFormed (now book) × TrueSheet (treeOf (now book)) (now sheet) × (m < machines) × Fillable (treeOf (now book)) m (rowsOf (now sheet))
-        × (length (now members) ≡ nodes) × (length (now places) ≡ nodes) × TableRoom (now target) (now price)
-        × FoundRoom (now dist) (now before) (now by) ⌝ }
+    requires { ⌜ WellFormed (now book) × TrueSheet (treeOf (now book)) (now sheet) × (m < machines)
+        × Fillable (treeOf (now book)) m (rowsOf (now sheet)) × (length (now members) ≡ nodes) × (length (now places) ≡ nodes)
+        × TableRoom (now target) (now price) × FoundRoom (now dist) (now before) (now by) ⌝ }
     ensures { λ r. ⌜ Searches (treeOf (now (book .entry))) (rowsOf (now (sheet .entry))) m r (now (members .exit)) (now (places .exit))
         (now (target .exit)) (now (price .exit)) (now (dist .exit)) (now (before .exit)) (now (by .exit)) ⌝ }
 {
@@ -216,10 +229,7 @@ fn way_cost(book: &[u32], sheet: &[u32], n: u32, d: u64, x: u32) -> u64
     if truesheet::counting(book, n, x) != book::BLANK {
         return search::UNREACHED;
     }
-    let OwnExit::Costs(e) = truesheet::own_exit(book, sheet, n, x) else {
-        return search::UNREACHED;
-    };
-    d + e
+    leave(book, sheet, n, x, d, 0)
 }
 
 // The cheapest way out by command x from the k nodes.
@@ -230,16 +240,16 @@ fn cheapest(book: &[u32], sheet: &[u32], k: u32, members: &[u32], dist: &[u64], 
 {
     let mut cost = search::UNREACHED;
     let mut node = book::ABSENT;
-    let mut i = 0u32;
-    while i < k {
-        let n = word(members, i);
-        let d = dist[i as usize];
+    let mut j = 0u32;
+    while j < k {
+        let n = word(members, j);
+        let d = dist[j as usize];
         let c = way_cost(book, sheet, n, d, x);
         if c < cost {
             cost = c;
             node = n;
         }
-        i += 1;
+        j += 1;
     }
     WayOut { cost, node }
 }
@@ -254,8 +264,8 @@ fn write_exit(
     dist: &[u64],
     x: u32,
 )
-    requires { ⌜ Holding (now book) (now sheet) × (m < machines) × NearOut (treeOf (now book)) (rowsOf (now sheet)) m k (now members) (now dist)
-        × (x < commands) ⌝ }
+    requires { ⌜ Holding (now book) (now sheet) × (m < machines)
+        × NearOut (treeOf (now book)) (rowsOf (now sheet)) m k (now members) (now dist) × (x < commands) ⌝ }
     ensures { λ _. ⌜ ExitWritten (treeOf (now (book .entry))) m k x (now (members .entry)) (now (dist .entry))
         (now (sheet .entry)) (now (sheet .exit)) ⌝ }
 {
@@ -266,7 +276,8 @@ fn write_exit(
 
 // Writes the exits of machine m.
 fn write_exits(book: &[u32], sheet: &mut [u32], m: u32, k: u32, members: &[u32], dist: &[u64])
-    requires { ⌜ Holding (now book) (now sheet) × (m < machines) × NearOut (treeOf (now book)) (rowsOf (now sheet)) m k (now members) (now dist) ⌝ }
+    requires { ⌜ Holding (now book) (now sheet) × (m < machines)
+        × NearOut (treeOf (now book)) (rowsOf (now sheet)) m k (now members) (now dist) ⌝ }
     ensures { λ _. ⌜ ExitsWritten (treeOf (now (book .entry))) m k commands (now (members .entry)) (now (dist .entry))
         (now (sheet .entry)) (now (sheet .exit)) ⌝ }
 {
@@ -279,8 +290,8 @@ fn write_exits(book: &[u32], sheet: &mut [u32], m: u32, k: u32, members: &[u32],
 
 // Fills the row of machine m, which is stale, and those of its nodes; nothing just below it is stale.
 fn fill_machine(book: &[u32], sheet: &mut [u32], m: u32, target: &mut [u32], price: &mut [u64])
-    requires { ⌜ WellFormed (now book) × TrueSheet (treeOf (now book)) (now sheet) × (m < machines) × Fillable (treeOf (now book)) m (rowsOf (now sheet))
-        × TableRoom (now target) (now price) ⌝ }
+    requires { ⌜ WellFormed (now book) × TrueSheet (treeOf (now book)) (now sheet) × (m < machines)
+        × Fillable (treeOf (now book)) m (rowsOf (now sheet)) × TableRoom (now target) (now price) ⌝ }
     ensures { λ _. ⌜ Filled (treeOf (now (book .entry))) m (now (sheet .entry)) (now (sheet .exit)) ⌝ }
 {
     let mut members = [0u32; 256];

@@ -18,13 +18,18 @@ abbrev μ-loop : tie.MeasureT-loop
 μ-loop book sheet₀ list l target₀ price₀ m₀ sheet target price m = machines - m
 
 loop-holds : tie.Need-loop-holds Inv-loop μ-loop
-loop-holds c = (omega arith, level-none (c .before .before .before .before .before .pre .1), c .before .before .before .before .before .pre .5)
+loop-holds c =
+    let entry = c .before .before .before .before .before in
+    (omega arith, level-none (entry .pre .1), entry .pre .5)
 
 fill-if-stale-requires : tie.Need-fill-if-stale-requires Inv-loop μ-loop
 fill-if-stale-requires c κs =
-    let p = c .before .before .before .before .before .before .before .before .before .before .pre in
-    let i = c .before .before .before .before .loop .inv in
-    (p .0, i .1 .holds, p .2, level-low (i .1) (p .3), c .before .before .before .loop-test .taken, i .2)
+    let inside = c .before .before .before in
+    let turn = inside .before in
+    let entry = turn .before .before .before .before .before .before in
+    let p = entry .pre in
+    let i = turn .loop .inv in
+    (p .0, i .1 .holds, p .2, level-low (i .1) (p .3), inside .loop-test .taken, i .2)
 
 add-m : tie.Need-add-m Inv-loop μ-loop
 add-m c = omega arith
@@ -34,26 +39,39 @@ loop-less c = omega arith
 
 loop-again : tie.Need-loop-again Inv-loop μ-loop
 loop-again c =
-    let i = c .before .before .before .before .before .before .before .before .before .before .before .loop .inv in
-    let kept = c .before .before .before .before .before .before .fill-if-stale .kept .1 .1 .1 .1 .1 in (
+    let at-fill-if-stale = c .before .before .before .before .before .before in
+    let turn = at-fill-if-stale .before .before .before .before .before in
+    let i = turn .loop .inv in
+    let kept = at-fill-if-stale .fill-if-stale .kept .1 .1 .1 .1 .1 in (
       omega arith,
-      level-more (i .1) (c .before .before .before .before .before .before .fill-if-stale .ensures),
+      level-more (i .1) (at-fill-if-stale .fill-if-stale .ensures),
       record { target-room = omega (arith, kept .0, i .2); price-room = omega (arith, kept .1 .0, i .2) },
     )
 
 same-length : tie.Need-same-length Inv-loop μ-loop
-same-length c = c .before .loop .inv .1 .holds .length ∙ sym (c .before .before .before .before .before .before .before .pre .1 .length)
+same-length c =
+    let turn = c .before in
+    let entry = turn .before .before .before .before .before .before in
+    turn .loop .inv .1 .holds .length ∙ sym (entry .pre .1 .length)
 
 same-length-2 : tie.Need-same-length-2 Inv-loop μ-loop
-same-length-2 c = c .before .loop .inv .2 .target-room ∙ sym (c .before .before .before .before .before .before .before .pre .5 .target-room)
+same-length-2 c =
+    let turn = c .before in
+    let entry = turn .before .before .before .before .before .before in
+    turn .loop .inv .2 .target-room ∙ sym (entry .pre .5 .target-room)
 
 same-length-3 : tie.Need-same-length-3 Inv-loop μ-loop
-same-length-3 c = c .before .loop .inv .2 .price-room ∙ sym (c .before .before .before .before .before .before .before .pre .5 .price-room)
+same-length-3 c =
+    let turn = c .before in
+    let entry = turn .before .before .before .before .before .before in
+    turn .loop .inv .2 .price-room ∙ sym (entry .pre .5 .price-room)
 
 returns : tie.Need-returns Inv-loop μ-loop
 returns c =
-    let p = c .before .before .before .before .before .before .before .pre in
-    level-all (c .before .loop .inv .1) (p .0 .sound) (c .loop-test .left) (p .4) (p .3)
+    let turn = c .before in
+    let entry = turn .before .before .before .before .before .before in
+    let p = entry .pre in
+    level-all (turn .loop .inv .1) (p .0 .sound) (c .loop-test .left) (p .4) (p .3)
 
 pub fill-level-spec : {M : Type 1} → statement M
 fill-level-spec =

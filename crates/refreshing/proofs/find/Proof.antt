@@ -1,4 +1,5 @@
--- `refreshing::find` meets its contract: the machine's nodes get their places, the tables their moves, and the rest is the search's. Assumes nothing.
+-- `refreshing::find` meets its contract: the machine's nodes get their places, the tables their moves, and the rest is the search's.
+-- Assumes nothing.
 use native.Mathlib.Omega.{arith}
 use Rattle.refreshing.proofs.Machine.{start-told, search-ready, searched-found}
 use borrow.Author.Needs.{needs}
@@ -16,8 +17,11 @@ start-requires c κs = search needs
 
 word-requires : tie.Need-word-requires
 word-requires c κs =
-    let p = c .before .before .before .before .before .before .before .before .before .before .before .before .before .before .before .before .before .before .before .before .before .before .before .before .before .before .before .pre in
-    omega (arith, start-told (p .0 .sound) (p .3) (c .start .ensures) .1, c .before .before .before .before .before .before .before .before .before .before .before .before .before .before .before .gather .ensures .places-room)
+    let at-tables-arg3 = c .before .before .before .before .before .before .before .before in
+    let at-gather = at-tables-arg3 .before .before .before .before .before .before .before in
+    let entry = at-gather .before .before .before .before .before .before .before .before .before .before .before .before in
+    let p = entry .pre in
+    omega (arith, start-told (p .0 .sound) (p .3) (c .start .ensures) .1, at-gather .gather .ensures .places-room)
 
 cast-search : tie.Need-cast-search
 cast-search c = search needs
@@ -27,13 +31,19 @@ cast-search-2 c = search needs
 
 search-requires : tie.Need-search-requires
 search-requires c κs =
-    let p = c .before .before .before .before .before .before .before .before .before .before .before .before .before .before .before .before .before .before .before .before .before .before .before .before .before .before .before .before .before .before .before .before .before .pre in
-    let tabled = c .before .before .before .before .before .before .before .before .before .before .before .before .tables in
-    let g = c .before .before .before .before .before .before .before .before .before .before .before .before .before .before .before .before .before .before .before .before .before .gather .ensures in
+    let at-word = c .before .before .before .before .before in
+    let at-start = at-word .before in
+    let at-tables = at-start .before .before .before .before .before .before in
+    let at-gather = at-tables .before .before .before .before .before .before .before .before .before in
+    let entry = at-gather .before .before .before .before .before .before .before .before .before .before .before .before in
+    let p = entry .pre in
+    let tabled = at-tables .tables in
+    let kept = tabled .kept .1 .1 .1 .1 .1 .1 in
+    let g = at-gather .gather .ensures in
     let room = p .7 in (
-      rw (c .before .before .before .before .before .word .ensures)
-          (search-ready (p .0 .sound) (p .1 .rows) (start-told (p .0 .sound) (p .3) (c .before .before .before .before .before .before .start .ensures) .0) (p .3) g
-          (record { target-room = omega (arith, tabled .kept .1 .1 .1 .1 .1 .1 .0, p .6); price-room = omega (arith, tabled .kept .1 .1 .1 .1 .1 .1 .1 .0, p .6) })
+      rw (at-word .word .ensures)
+          (search-ready (p .0 .sound) (p .1 .rows) (start-told (p .0 .sound) (p .3) (at-start .start .ensures) .0) (p .3) g
+          (record { target-room = omega (arith, kept .0, p .6); price-room = omega (arith, kept .1 .0, p .6) })
           (tabled .ensures)),
       record { dist-room = omega (arith, g .many, room); before-room = omega (arith, g .many, room); by-room = omega (arith, g .many, room) },
     )
@@ -61,11 +71,21 @@ same-length-7 c = search needs
 
 returns : tie.Need-returns
 returns c =
-    let kept = c .before .before .before .before .before .before .search .kept .1 .1 .1 .1 in
-    let room = c .before .before .before .before .before .before .before .before .before .before .before .before .before .before .before .before .before .before .before .before .before .before .before .before .before .before .before .before .before .before .before .before .before .before .before .before .before .before .before .before .pre .7 in
-    searched-found (c .before .before .before .before .before .before .before .before .before .before .before .before .before .before .before .before .before .before .before .before .before .before .before .before .before .before .before .before .gather .ensures) (c .before .before .before .before .before .before .before .before .before .before .before .before .before .before .before .before .before .before .before .tables .ensures) (c .before .before .before .before .before .before .before .before .before .before .before .before .before .start .ensures) (c .before .before .before .before .before .before .before .before .before .before .before .before .word .ensures)
-    (record { dist-room = omega (arith, kept .0, room); before-room = omega (arith, kept .1 .0, room); by-room = omega (arith, kept .1 .1 .0, room) })
-    (c .before .before .before .before .before .before .search .ensures)
+    let at-search = c .before .before .before .before .before .before in
+    let at-word = at-search .before .before .before .before .before .before in
+    let at-start = at-word .before in
+    let at-tables = at-start .before .before .before .before .before .before in
+    let at-gather = at-tables .before .before .before .before .before .before .before .before .before in
+    let entry = at-gather .before .before .before .before .before .before .before .before .before .before .before .before in
+    let kept = at-search .search .kept .1 .1 .1 .1 in
+    let room = entry .pre .7 in
+    searched-found (at-gather .gather .ensures) (at-tables .tables .ensures) (at-start .start .ensures) (at-word .word .ensures)
+    (record {
+      dist-room = omega (arith, kept .0, room);
+      before-room = omega (arith, kept .1 .0, room);
+      by-room = omega (arith, kept .1 .1 .0, room);
+    })
+    (at-search .search .ensures)
 
 pub find-spec : {M : Type 1} → statement M
 find-spec =

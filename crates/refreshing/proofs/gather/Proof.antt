@@ -23,8 +23,10 @@ loop-holds c =
 
 gather-node-requires : tie.Need-gather-node-requires Inv-loop μ-loop
 gather-node-requires c κs =
-    let l = c .before .before .before in
-    (l .before .before .before .before .pre .0, l .before .before .before .before .pre .1, c .before .before .loop-test .taken, l .loop .inv .1)
+    let inside = c .before .before in
+    let l = inside .before in
+    let entry = l .before .before .before .before in
+    (entry .pre .0, entry .pre .1, inside .loop-test .taken, l .loop .inv .1)
 
 add-n : tie.Need-add-n Inv-loop μ-loop
 add-n c = omega arith
@@ -33,13 +35,21 @@ loop-less : tie.Need-loop-less Inv-loop μ-loop
 loop-less c = omega arith
 
 loop-again : tie.Need-loop-again Inv-loop μ-loop
-loop-again c = (omega arith, c .before .before .before .before .gather-node .ensures)
+loop-again c =
+    let at-gather-node = c .before .before .before .before in
+    (omega arith, at-gather-node .gather-node .ensures)
 
 same-length : tie.Need-same-length Inv-loop μ-loop
-same-length c = c .before .loop .inv .1 .members-room ∙ sym (c .before .before .before .before .before .pre .2)
+same-length c =
+    let turn = c .before in
+    let entry = turn .before .before .before .before in
+    turn .loop .inv .1 .members-room ∙ sym (entry .pre .2)
 
 same-length-2 : tie.Need-same-length-2 Inv-loop μ-loop
-same-length-2 c = c .before .loop .inv .1 .places-room ∙ sym (c .before .before .before .before .before .pre .3)
+same-length-2 c =
+    let turn = c .before in
+    let entry = turn .before .before .before .before in
+    turn .loop .inv .1 .places-room ∙ sym (entry .pre .3)
 
 returns : tie.Need-returns Inv-loop μ-loop
 returns c = gathered-all (c .before .loop .inv .1) (c .before .loop .inv .0) (c .loop-test .left)

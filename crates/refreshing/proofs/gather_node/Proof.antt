@@ -8,7 +8,10 @@ owner-requires : tie.Need-owner-requires
 owner-requires c κs = search needs
 
 returns : tie.Need-returns
-returns c = gathered-skip (c .before .before .before .before .before .pre .3) (not-owned (c .before .owner .ensures) (c .if1 .taken))
+returns c =
+    let at-owner = c .before in
+    let entry = at-owner .before .before .before .before in
+    gathered-skip (entry .pre .3) (not-owned (at-owner .owner .ensures) (c .if1 .taken))
 
 mul-members : tie.Need-mul-members
 mul-members c = search needs
@@ -33,8 +36,10 @@ same-length-2 c = search needs
 
 returns-2 : tie.Need-returns-2
 returns-2 c =
-    let p = c .before .before .before .before .before .pre in
-    gathered-more (p .3) (p .2) (is-owned (c .before .owner .ensures) (c .if1 .left) (p .1))
+    let at-owner = c .before in
+    let entry = at-owner .before .before .before .before in
+    let p = entry .pre in
+    gathered-more (p .3) (p .2) (is-owned (at-owner .owner .ensures) (c .if1 .left) (p .1))
 
 pub gather-node-spec : {M : Type 1} → statement M
 gather-node-spec =

@@ -2,10 +2,10 @@
 use Prim.Native.Nat.{_-_}
 use native.Mathlib.Omega.{arith}
 use borrow.Author.Needs.{needs}
-use denote.Ref.{now}
 use Rattle.definitions.specs.Limits.{levels}
 use Rattle.definitions.specs.Book.{treeOf}
-use Rattle.refreshing.proofs.Levels.{Climbed, level-unused, climbed-first, climbed-range, climbed-top, climbed-holder, climbed-below, climbed-up}
+use Rattle.refreshing.proofs.Levels.{Climbed, level-unused, climbed-first, climbed-range, climbed-top}
+use Rattle.refreshing.proofs.Levels.{climbed-holder, climbed-below, climbed-up}
 use Rattle.refreshing.proofs.machine_level.Statement.{statement}
 use Rattle.refreshing.proofs.machine_level.Tie as tie
 
@@ -19,7 +19,10 @@ start-requires : tie.Need-start-requires Inv-loop μ-loop
 start-requires c κs = search needs
 
 returns : tie.Need-returns Inv-loop μ-loop
-returns c = level-unused (c .before .before .before .pre .0 .sound) (c .before .before .before .args .m) (c .before .start .ensures) (c .if1 .taken)
+returns c =
+    let at-start = c .before in
+    let entry = at-start .before .before in
+    level-unused (entry .pre .0 .sound) (entry .args .m) (at-start .start .ensures) (c .if1 .taken)
 
 loop-holds : tie.Need-loop-holds Inv-loop μ-loop
 loop-holds c = climbed-first (c .before .start .ensures) (c .if1 .left)
@@ -30,21 +33,42 @@ holder-requires c κs =
     (e .pre .0 .length, climbed-range (e .pre .0 .sound) (c .loop .inv))
 
 returns-2 : tie.Need-returns-2 Inv-loop μ-loop
-returns-2 c = climbed-top (c .before .before .before .before .before .before .pre .0 .sound) (c .before .before .loop .inv) (c .before .holder .ensures) (c .if2 .taken)
+returns-2 c =
+    let at-holder = c .before in
+    let turn = at-holder .before in
+    let entry = turn .before .before .before .before in
+    climbed-top (entry .pre .0 .sound) (turn .loop .inv) (at-holder .holder .ensures) (c .if2 .taken)
 
 owner-requires : tie.Need-owner-requires Inv-loop μ-loop
 owner-requires c κs =
-    let e = c .before .before .before .before .before .before in
-    (e .pre .0 .length, climbed-holder (e .pre .0 .sound) (c .before .before .loop .inv) (c .before .holder .ensures) (c .if2 .left))
+    let at-holder = c .before in
+    let turn = at-holder .before in
+    let e = turn .before .before .before .before in
+    (e .pre .0 .length, climbed-holder (e .pre .0 .sound) (turn .loop .inv) (at-holder .holder .ensures) (c .if2 .left))
 
 add-count : tie.Need-add-count Inv-loop μ-loop
-add-count c = omega (arith, climbed-below (c .before .before .before .before .before .before .before .pre .0 .sound) (c .before .before .before .loop .inv) (c .before .before .holder .ensures) (c .before .if2 .left))
+add-count c =
+    let branch2 = c .before in
+    let at-holder = branch2 .before in
+    let turn = at-holder .before in
+    let entry = turn .before .before .before .before in
+    omega (arith, climbed-below (entry .pre .0 .sound) (turn .loop .inv) (at-holder .holder .ensures) (branch2 .if2 .left))
 
 loop-less : tie.Need-loop-less Inv-loop μ-loop
-loop-less c = omega (arith, climbed-below (c .before .before .before .before .before .before .before .pre .0 .sound) (c .before .before .before .loop .inv) (c .before .before .holder .ensures) (c .before .if2 .left))
+loop-less c =
+    let branch2 = c .before in
+    let at-holder = branch2 .before in
+    let turn = at-holder .before in
+    let entry = turn .before .before .before .before in
+    omega (arith, climbed-below (entry .pre .0 .sound) (turn .loop .inv) (at-holder .holder .ensures) (branch2 .if2 .left))
 
 loop-again : tie.Need-loop-again Inv-loop μ-loop
-loop-again c = climbed-up (c .before .before .before .before .before .before .before .pre .0 .sound) (c .before .before .before .loop .inv) (c .before .before .holder .ensures) (c .before .if2 .left) (c .owner .ensures)
+loop-again c =
+    let branch2 = c .before in
+    let at-holder = branch2 .before in
+    let turn = at-holder .before in
+    let entry = turn .before .before .before .before in
+    climbed-up (entry .pre .0 .sound) (turn .loop .inv) (at-holder .holder .ensures) (branch2 .if2 .left) (c .owner .ensures)
 
 pub machine-level-spec : {M : Type 1} → statement M
 machine-level-spec =

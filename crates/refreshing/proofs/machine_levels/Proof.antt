@@ -38,7 +38,10 @@ loop-less : tie.Need-loop-less Inv-loop μ-loop
 loop-less c = omega arith
 
 loop-again : tie.Need-loop-again Inv-loop μ-loop
-loop-again c = (omega arith, levels-more (c .before .before .loop .inv .1) (c .before .loop-test .taken) (c .machine-level .ensures))
+loop-again c =
+    let inside = c .before in
+    let turn = inside .before in
+    (omega arith, levels-more (turn .loop .inv .1) (inside .loop-test .taken) (c .machine-level .ensures))
 
 returns : tie.Need-returns Inv-loop μ-loop
 returns c = levels-all (c .before .loop .m) (c .before .loop .inv .1) (c .loop-test .left)

@@ -13,10 +13,16 @@ mul-result : tie.Need-mul-result
 mul-result c = search needs
 
 shared-slice-read-result : tie.Need-shared-slice-read-result
-shared-slice-read-result c = name-fits (c .before .before .pre) (c .before .if1 .left)
+shared-slice-read-result c =
+    let branch = c .before in
+    let entry = branch .before in
+    name-fits (entry .pre) (branch .if1 .left)
 
 returns-2 : tie.Need-returns-2
-returns-2 c = name-there (c .before .before .pre) (c .before .if1 .left) refl
+returns-2 c =
+    let branch = c .before in
+    let entry = branch .before in
+    name-there (entry .pre) (branch .if1 .left) refl
 
 pub name-word-spec : {M : Type 1} → statement M
 name-word-spec = tie.close (tie.spec returns mul-result shared-slice-read-result returns-2)

@@ -26,19 +26,29 @@ loop-holds c =
     (omega arith, below-none (p .0 .sound) (p .1), record { target-room = refl; price-room = refl })
 
 slice-aggregate-fill-level : tie.Need-slice-aggregate-fill-level Inv-loop μ-loop
-slice-aggregate-fill-level c = omega (arith, c .before .before .before .before .machine-levels .ensures .length)
+slice-aggregate-fill-level c =
+    let at-machine-levels = c .before .before .before .before in
+    omega (arith, at-machine-levels .machine-levels .ensures .length)
 
 slice-aggregate-fill-level-2 : tie.Need-slice-aggregate-fill-level-2 Inv-loop μ-loop
-slice-aggregate-fill-level-2 c = omega (arith, c .before .before .before .before .loop .inv .2 .target-room)
+slice-aggregate-fill-level-2 c =
+    let turn = c .before .before .before .before in
+    omega (arith, turn .loop .inv .2 .target-room)
 
 slice-aggregate-fill-level-3 : tie.Need-slice-aggregate-fill-level-3 Inv-loop μ-loop
-slice-aggregate-fill-level-3 c = omega (arith, c .before .before .before .before .before .loop .inv .2 .price-room)
+slice-aggregate-fill-level-3 c =
+    let turn = c .before .before .before .before .before in
+    omega (arith, turn .loop .inv .2 .price-room)
 
 fill-level-requires : tie.Need-fill-level-requires Inv-loop μ-loop
 fill-level-requires c κs =
-    let p = c .before .before .before .before .before .before .before .before .before .pre in
-    let i = c .before .before .before .before .before .loop .inv in
-    (p .0, i .1 .holds, c .before .before .before .before .before .before .machine-levels .ensures, i .1 .below, c .before .before .before .before .loop-test .taken, i .2)
+    let inside = c .before .before .before .before in
+    let turn = inside .before in
+    let at-machine-levels = turn .before in
+    let entry = at-machine-levels .before .before .before in
+    let p = entry .pre in
+    let i = turn .loop .inv in
+    (p .0, i .1 .holds, at-machine-levels .machine-levels .ensures, i .1 .below, inside .loop-test .taken, i .2)
 
 sub-l : tie.Need-sub-l Inv-loop μ-loop
 sub-l c = omega arith
@@ -48,18 +58,26 @@ loop-less c = omega arith
 
 loop-again : tie.Need-loop-again Inv-loop μ-loop
 loop-again c =
-    let i = c .before .before .before .before .before .before .before .before .before .before .loop .inv in
-    let kept = c .before .before .before .before .fill-level .kept .1 .1 .1 .1 in (
+    let at-fill-level = c .before .before .before .before in
+    let turn = at-fill-level .before .before .before .before .before .before in
+    let i = turn .loop .inv in
+    let kept = at-fill-level .fill-level .kept .1 .1 .1 .1 in (
       omega arith,
-      below-more (i .1) (c .before .before .before .before .fill-level .ensures),
+      below-more (i .1) (at-fill-level .fill-level .ensures),
       record { target-room = omega (arith, kept .0, i .2); price-room = omega (arith, kept .1 .0, i .2) },
     )
 
 same-length : tie.Need-same-length Inv-loop μ-loop
-same-length c = c .before .loop .inv .1 .holds .length ∙ sym (c .before .before .before .before .before .pre .1 .length)
+same-length c =
+    let turn = c .before in
+    let entry = turn .before .before .before .before in
+    turn .loop .inv .1 .holds .length ∙ sym (entry .pre .1 .length)
 
 returns : tie.Need-returns Inv-loop μ-loop
-returns c = below-all (c .before .before .before .before .before .pre .0 .sound) (c .before .loop .inv .1) (c .loop-test .left)
+returns c =
+    let turn = c .before in
+    let entry = turn .before .before .before .before in
+    below-all (entry .pre .0 .sound) (turn .loop .inv .1) (c .loop-test .left)
 
 pub refresh-spec : {M : Type 1} → statement M
 refresh-spec =

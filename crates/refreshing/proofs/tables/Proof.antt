@@ -1,5 +1,5 @@
 -- `refreshing::tables` meets its contract: the entries passed have the moves of the nodes at their places. Assumes nothing.
-use mathlib.Core.Path.{sym, _∙_, ap}
+use mathlib.Core.Path.{sym, _∙_}
 use Prim.Native.Nat.{_*_, _≤_, _-_}
 use native.Mathlib.Omega.{arith}
 use denote.Ref.{now}
@@ -25,10 +25,14 @@ loop-holds c =
     (omega arith, tabled-none (treeOf (now (a .book))) (rowsOf (now (a .sheet))) (at (now (a .members))) (at (now (a .places))) (e .pre .2))
 
 mul-loop : tie.Need-mul-loop Inv-loop μ-loop
-mul-loop c = omega (arith, c .before .before .before .before .before .before .before .pre .1 .many)
+mul-loop c =
+    let entry = c .before .before .before .before .before .before .before in
+    omega (arith, entry .pre .1 .many)
 
 word-requires : tie.Need-word-requires Inv-loop μ-loop
-word-requires c κs = omega (arith, c .before .before .before .before .before .before .before .before .pre .1 .many, c .before .before .before .before .before .before .before .before .pre .1 .members-room)
+word-requires c κs =
+    let entry = c .before .before .before .before .before .before .before .before in
+    omega (arith, entry .pre .1 .many, entry .pre .1 .members-room)
 
 table-entry-requires : tie.Need-table-entry-requires Inv-loop μ-loop
 table-entry-requires c κs =
@@ -42,7 +46,10 @@ mul-target : tie.Need-mul-target Inv-loop μ-loop
 mul-target c = omega arith
 
 slice-write-target : tie.Need-slice-write-target Inv-loop μ-loop
-slice-write-target c = omega (arith, c .before .before .before .loop .inv .1 .room .target-room, c .before .before .before .before .before .before .before .before .before .before .pre .1 .many)
+slice-write-target c =
+    let turn = c .before .before .before in
+    let entry = turn .before .before .before .before .before .before .before in
+    omega (arith, turn .loop .inv .1 .room .target-room, entry .pre .1 .many)
 
 cast-price : tie.Need-cast-price Inv-loop μ-loop
 cast-price c = omega arith
@@ -51,34 +58,50 @@ mul-price : tie.Need-mul-price Inv-loop μ-loop
 mul-price c = omega arith
 
 slice-write-price : tie.Need-slice-write-price Inv-loop μ-loop
-slice-write-price c = omega (arith, c .before .before .before .loop .inv .1 .room .price-room, c .before .before .before .before .before .before .before .before .before .before .pre .1 .many)
+slice-write-price c =
+    let turn = c .before .before .before in
+    let entry = turn .before .before .before .before .before .before .before in
+    omega (arith, turn .loop .inv .1 .room .price-room, entry .pre .1 .many)
 
 add-j : tie.Need-add-j Inv-loop μ-loop
-add-j c = omega (arith, c .before .before .before .before .before .before .before .before .before .before .pre .1 .many)
+add-j c =
+    let entry = c .before .before .before .before .before .before .before .before .before .before in
+    omega (arith, entry .pre .1 .many)
 
 loop-less : tie.Need-loop-less Inv-loop μ-loop
 loop-less c = omega arith
 
 loop-again : tie.Need-loop-again Inv-loop μ-loop
 loop-again c =
-    let l = c .before .before .before in
-    let e = c .before .before .before .before .before .before .before .before .before .before in
+    let at-word = c .before in
+    let l = at-word .before .before in
+    let e = l .before .before .before .before .before .before .before in
     let a = e .args in (
       omega arith,
-      tabled-more (treeOf (now (a .book))) (rowsOf (now (a .sheet))) (at (now (a .members))) (at (now (a .places))) (c .table-entry .result .target)
-          (c .table-entry .result .price) (l .loop .inv .1) (omega (arith, e .pre .1 .many)) (rw (c .before .word .ensures) at (c .table-entry .ensures)),
+      tabled-more (treeOf (now (a .book))) (rowsOf (now (a .sheet))) (at (now (a .members))) (at (now (a .places)))
+          (c .table-entry .result .target) (c .table-entry .result .price) (l .loop .inv .1) (omega (arith, e .pre .1 .many))
+          (rw (at-word .word .ensures) at (c .table-entry .ensures)),
     )
 
 same-length : tie.Need-same-length Inv-loop μ-loop
-same-length c = c .before .loop .inv .1 .room .target-room ∙ sym (c .before .before .before .before .before .before .before .before .pre .2 .target-room)
+same-length c =
+    let turn = c .before in
+    let entry = turn .before .before .before .before .before .before .before in
+    turn .loop .inv .1 .room .target-room ∙ sym (entry .pre .2 .target-room)
 
 same-length-2 : tie.Need-same-length-2 Inv-loop μ-loop
-same-length-2 c = c .before .loop .inv .1 .room .price-room ∙ sym (c .before .before .before .before .before .before .before .before .pre .2 .price-room)
+same-length-2 c =
+    let turn = c .before in
+    let entry = turn .before .before .before .before .before .before .before in
+    turn .loop .inv .1 .room .price-room ∙ sym (entry .pre .2 .price-room)
 
 returns : tie.Need-returns Inv-loop μ-loop
 returns c =
-    let a = c .before .before .before .before .before .before .before .before .args in
-    tabled-all (treeOf (now (a .book))) (rowsOf (now (a .sheet))) (at (now (a .members))) (at (now (a .places))) (c .before .loop .inv .1) (c .loop-test .left)
+    let turn = c .before in
+    let entry = turn .before .before .before .before .before .before .before in
+    let a = entry .args in
+    tabled-all (treeOf (now (a .book))) (rowsOf (now (a .sheet))) (at (now (a .members))) (at (now (a .places))) (turn .loop .inv .1)
+    (c .loop-test .left)
 
 pub tables-spec : {M : Type 1} → statement M
 tables-spec =

@@ -9,8 +9,10 @@ cheapest-requires c κs = search needs
 
 cost-word-requires : tie.Need-cost-word-requires
 cost-word-requires c κs =
-    let p = c .before .before .before .before .before .before .before .pre in
-    exit-fits (p .3) (p .2) (c .before .cheapest .ensures)
+    let at-cheapest = c .before in
+    let entry = at-cheapest .before .before .before .before .before .before in
+    let p = entry .pre in
+    exit-fits (p .3) (p .2) (at-cheapest .cheapest .ensures)
 
 set-exit-requires : tie.Need-set-exit-requires
 set-exit-requires c κs = search needs
@@ -22,7 +24,13 @@ same-length : tie.Need-same-length
 same-length c = search needs
 
 returns : tie.Need-returns
-returns c = exit-written _ (c .before .before .before .before .before .before .before .before .before .cheapest .ensures) (c .before .before .before .before .before .before .set-exit .ensures) (c .before .before .before .before .before .before .before .cost-word .ensures) (c .before .before .set-last .ensures)
+returns c =
+    let at-set-last = c .before .before in
+    let at-set-exit = at-set-last .before .before .before .before in
+    let at-cost-word = at-set-exit .before in
+    let at-cheapest = at-cost-word .before .before in
+    exit-written _ (at-cheapest .cheapest .ensures) (at-set-exit .set-exit .ensures) (at-cost-word .cost-word .ensures)
+    (at-set-last .set-last .ensures)
 
 pub write-exit-spec : {M : Type 1} → statement M
 write-exit-spec =

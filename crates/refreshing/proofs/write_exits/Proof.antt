@@ -16,16 +16,21 @@ abbrev μ-loop : tie.MeasureT-loop
 μ-loop book sheet₀ m k members dist x₀ sheet x = commands - x
 
 loop-holds : tie.Need-loop-holds Inv-loop μ-loop
-loop-holds c = (omega arith, exits-none (c .before .before .before .before .pre .0 .long))
+loop-holds c =
+    let entry = c .before .before .before .before in
+    (omega arith, exits-none (entry .pre .0 .long))
 
 write-exit-requires : tie.Need-write-exit-requires Inv-loop μ-loop
 write-exit-requires c κs =
-    let p = c .before .before .before .before .before .before .before .pre in
-    let done = c .before .before .loop .inv .1 in (
+    let inside = c .before in
+    let turn = inside .before in
+    let entry = turn .before .before .before .before .before in
+    let p = entry .pre in
+    let done = turn .loop .inv .1 in (
       record { well-formed = p .0 .well-formed; long = done .leaves .length },
       p .1,
       near-kept (p .0 .well-formed .sound) (done .exit) (p .2),
-      c .before .loop-test .taken,
+      inside .loop-test .taken,
     )
 
 add-x : tie.Need-add-x Inv-loop μ-loop
@@ -36,11 +41,19 @@ loop-less c = omega arith
 
 loop-again : tie.Need-loop-again Inv-loop μ-loop
 loop-again c =
-    let p = c .before .before .before .before .before .before .before .before .before .before .pre in
-    (omega arith, exits-more (p .0 .well-formed .sound) (c .before .before .before .before .loop-test .taken) (p .2) (c .before .before .before .before .before .loop .inv .1) (c .before .before .write-exit .ensures))
+    let at-write-exit = c .before .before in
+    let inside = at-write-exit .before .before in
+    let turn = inside .before in
+    let entry = turn .before .before .before .before .before in
+    let p = entry .pre in
+    let done = turn .loop .inv .1 in
+    (omega arith, exits-more (p .0 .well-formed .sound) (inside .loop-test .taken) (p .2) done (at-write-exit .write-exit .ensures))
 
 same-length : tie.Need-same-length Inv-loop μ-loop
-same-length c = c .before .loop .inv .1 .leaves .length ∙ sym (c .before .before .before .before .before .before .pre .0 .long)
+same-length c =
+    let turn = c .before in
+    let entry = turn .before .before .before .before .before in
+    turn .loop .inv .1 .leaves .length ∙ sym (entry .pre .0 .long)
 
 returns : tie.Need-returns Inv-loop μ-loop
 returns c = exits-all (c .before .loop .inv .1) (c .before .loop .inv .0) (c .loop-test .left)

@@ -24,9 +24,15 @@ same-length c = search needs
 
 returns : tie.Need-returns
 returns c =
-    let a = c .before .before .before .before .before .before .before .before .before .before .before .before .before .before .before .before .args in
-    node-written (a .n) _ _ (a .x) (c .before .before .before .before .before .before .before .before .before .before .before .set-cost .ensures) (c .before .before .before .before .before .before .set-before .ensures) (c .before .before .set-by .ensures) (c .before .before .before .before .before .before .before .before .before .before .before .before .cost-word .ensures)
-    (c .before .before .before .before .before .before .before .name-word .ensures)
+    let at-set-by = c .before .before in
+    let at-set-before = at-set-by .before .before .before .before in
+    let at-name-word = at-set-before .before in
+    let at-set-cost = at-name-word .before .before .before .before in
+    let at-cost-word = at-set-cost .before in
+    let entry = at-cost-word .before .before .before .before in
+    let a = entry .args in
+    node-written (a .n) _ _ (a .x) (at-set-cost .set-cost .ensures) (at-set-before .set-before .ensures) (at-set-by .set-by .ensures)
+    (at-cost-word .cost-word .ensures) (at-name-word .name-word .ensures)
 
 pub write-node-spec : {M : Type 1} → statement M
 write-node-spec =

@@ -2,7 +2,6 @@
 use mathlib.Core.Path.{sym, _∙_}
 use Prim.Native.Nat.{_≤_, _-_}
 use native.Mathlib.Omega.{arith}
-use denote.Ref.{now}
 use Rattle.refreshing.specs.Parts.{NodesWritten}
 use Rattle.refreshing.proofs.Nodes.{nodes-none, nodes-more, nodes-all}
 use Rattle.refreshing.proofs.write_nodes.Statement.{statement}
@@ -15,7 +14,9 @@ abbrev μ-loop : tie.MeasureT-loop
 μ-loop sheet₀ k members dist before by i₀ sheet i = k - i
 
 loop-holds : tie.Need-loop-holds Inv-loop μ-loop
-loop-holds c = (omega arith, nodes-none (c .before .before .before .before .before .pre .0))
+loop-holds c =
+    let entry = c .before .before .before .before .before in
+    (omega arith, nodes-none (entry .pre .0))
 
 cast-d : tie.Need-cast-d Inv-loop μ-loop
 cast-d c = omega arith
@@ -24,25 +25,37 @@ mul-d : tie.Need-mul-d Inv-loop μ-loop
 mul-d c = omega arith
 
 shared-slice-read-d : tie.Need-shared-slice-read-d Inv-loop μ-loop
-shared-slice-read-d c = omega (arith, c .before .before .before .before .before .before .before .before .pre .1 .room .dist-room, c .before .before .before .before .before .before .before .before .pre .1 .small)
+shared-slice-read-d c =
+    let entry = c .before .before .before .before .before .before .before .before in
+    omega (arith, entry .pre .1 .room .dist-room, entry .pre .1 .small)
 
 word-requires : tie.Need-word-requires Inv-loop μ-loop
-word-requires c κs = omega (arith, c .before .before .before .before .before .before .before .before .before .pre .1 .members-room, c .before .before .before .before .before .before .before .before .before .pre .1 .small)
+word-requires c κs =
+    let entry = c .before .before .before .before .before .before .before .before .before in
+    omega (arith, entry .pre .1 .members-room, entry .pre .1 .small)
 
 word-requires-2 : tie.Need-word-requires-2 Inv-loop μ-loop
-word-requires-2 c κs = omega (arith, c .before .before .before .before .before .before .before .before .before .before .pre .1 .room .before-room, c .before .before .before .before .before .before .before .before .before .before .pre .1 .small)
+word-requires-2 c κs =
+    let entry = c .before .before .before .before .before .before .before .before .before .before in
+    omega (arith, entry .pre .1 .room .before-room, entry .pre .1 .small)
 
 word-requires-3 : tie.Need-word-requires-3 Inv-loop μ-loop
-word-requires-3 c κs = omega (arith, c .before .before .before .before .before .before .before .before .before .before .before .pre .1 .room .by-room, c .before .before .before .before .before .before .before .before .before .before .before .pre .1 .small)
+word-requires-3 c κs =
+    let entry = c .before .before .before .before .before .before .before .before .before .before .before in
+    omega (arith, entry .pre .1 .room .by-room, entry .pre .1 .small)
 
 write-node-requires : tie.Need-write-node-requires Inv-loop μ-loop
 write-node-requires c κs =
-    let l = c .before .before .before .before .before .before in
-    let able = c .before .before .before .before .before .before .before .before .before .before .before .before .pre .1 in (
+    let at-word2 = c .before in
+    let at-word = at-word2 .before in
+    let inside = at-word .before .before .before in
+    let l = inside .before in
+    let entry = l .before .before .before .before .before .before in
+    let able = entry .pre .1 in (
       l .loop .inv .1 .leaves .length,
-      rw (c .before .before .word .ensures) (able .inside (l .loop .i) (c .before .before .before .before .before .loop-test .taken)),
-      able .costs (l .loop .i) (c .before .before .before .before .before .loop-test .taken),
-      rw (c .before .word2 .ensures) (able .names (l .loop .i) (c .before .before .before .before .before .loop-test .taken)),
+      rw (at-word .word .ensures) (able .inside (l .loop .i) (inside .loop-test .taken)),
+      able .costs (l .loop .i) (inside .loop-test .taken),
+      rw (at-word2 .word2 .ensures) (able .names (l .loop .i) (inside .loop-test .taken)),
     )
 
 add-i : tie.Need-add-i Inv-loop μ-loop
@@ -53,12 +66,21 @@ loop-less c = omega arith
 
 loop-again : tie.Need-loop-again Inv-loop μ-loop
 loop-again c =
-    let l = c .before .before .before .before .before .before .before .before .before in
-    let stored = rw (c .before .before .before .before .before .word .ensures, c .before .before .before .before .word2 .ensures, c .before .before .before .word3 .ensures) at (c .before .before .write-node .ensures) in
-    (omega arith, nodes-more (c .before .before .before .before .before .before .before .before .before .before .before .before .before .before .before .pre .1) (c .before .before .before .before .before .before .before .before .loop-test .taken) (l .loop .inv .1) stored)
+    let at-write-node = c .before .before in
+    let at-word3 = at-write-node .before in
+    let at-word2 = at-word3 .before in
+    let at-word = at-word2 .before in
+    let inside = at-word .before .before .before in
+    let l = inside .before in
+    let entry = l .before .before .before .before .before .before in
+    let stored = rw (at-word .word .ensures, at-word2 .word2 .ensures, at-word3 .word3 .ensures) at (at-write-node .write-node .ensures) in
+    (omega arith, nodes-more (entry .pre .1) (inside .loop-test .taken) (l .loop .inv .1) stored)
 
 same-length : tie.Need-same-length Inv-loop μ-loop
-same-length c = c .before .loop .inv .1 .leaves .length ∙ sym (c .before .before .before .before .before .before .before .pre .0)
+same-length c =
+    let turn = c .before in
+    let entry = turn .before .before .before .before .before .before in
+    turn .loop .inv .1 .leaves .length ∙ sym (entry .pre .0)
 
 returns : tie.Need-returns Inv-loop μ-loop
 returns c = nodes-all (c .before .loop .inv .1) (c .before .loop .inv .0) (c .loop-test .left)
