@@ -14,8 +14,9 @@ use Rattle.definitions.specs.Edit.{refusal, treeAfter, RowsAfter}
 use Rattle.definitions.specs.Load.{Outcome, next, stopped, after, load}
 use Rattle.definitions.specs.Calls.{LoadAnswer, LoadDone}
 use Rattle.definitions.proofs.Words.{well-formed-words, marks-words}
-use Rattle.definitions.proofs.Streams.{read-ended, next-nothing, next-unread, next-refuses, next-takes, next-size, load-end, load-refused, load-taken}
-use Rattle.loading.specs.Loading.{Done, Took-next, Stays, Turned, joined, Underway}
+use Rattle.definitions.proofs.Streams.{read-ended, next-nothing, next-unread, next-refuses, next-takes, next-size}
+use Rattle.definitions.proofs.Streams.{load-end, load-refused, load-taken}
+use Rattle.loading.specs.Loading.{Done, TookNext, Stays, Turned, joined, Underway}
 use Rattle.loading.specs.declared.Turn.{Turn}
 use Rattle.loading.specs.declared.Turn.the-variants.{Took, Stopped}
 
@@ -39,13 +40,13 @@ module _ (b s bytes : List ℕ) where
         record { stops = load-refused (treeOf b) bytes (next-refuses (treeOf b) bytes (sym e) (sym judged) other); book = refl; sheet = refl }
 
     -- it is done
-    pub turn-taken : {k : ℕ} → k ≡ refusal (treeOf b) c → k ≡ 0 → {b′ s′ : List ℕ} → Done b s c b′ s′ → Took-next b s bytes size b′ s′
+    pub turn-taken : {k : ℕ} → k ≡ refusal (treeOf b) c → k ≡ 0 → {b′ s′ : List ℕ} → Done b s c b′ s′ → TookNext b s bytes size b′ s′
     turn-taken judged none-holds done =
         record { command = c; stands = next-takes (treeOf b) bytes (sym e) (sym judged ∙ none-holds); done = done }
 
--- what became of it, told by its case
+-- what became of it, told by its case: done, or nothing more is done
 pub turned-took : {b s bytes : List ℕ} {r : Turn} {size : ℕ} {b′ s′ : List ℕ} → r ≡ Took size → Turned b s bytes r b′ s′
-    → Took-next b s bytes size b′ s′
+    → TookNext b s bytes size b′ s′
 turned-took {b} {s} {bytes} {b′ = b′} {s′ = s′} told turned = subst (λ (r : Turn). Turned b s bytes r b′ s′) told turned
 
 pub turned-stays : {b s bytes : List ℕ} {r : Turn} {k : ℕ} {b′ s′ : List ℕ} → r ≡ Stopped k → Turned b s bytes r b′ s′
@@ -97,11 +98,12 @@ module _ {b s stream : List ℕ} where
       }
 
   module _ {bytes count : ℕ} {b′ s′ : List ℕ} (under : Underway b s stream bytes count b′ s′) where
-    -- a command more: it takes one byte at least, and none that is not there
-    pub turn-size : {size : ℕ} {b″ s″ : List ℕ} → Took-next b′ s′ (drop bytes stream) size b″ s″ → (0 < size) × (bytes + size ≤ length stream)
+    -- a command that is done takes one byte at least, and none that is not there
+    pub turn-size : {size : ℕ} {b″ s″ : List ℕ} → TookNext b′ s′ (drop bytes stream) size b″ s″ → (0 < size) × (bytes + size ≤ length stream)
     turn-size took = omega (arith, next-size (treeOf b′) (drop bytes stream) (took .stands), length-drop bytes stream, under .room)
 
-    pub underway-on : {size : ℕ} {b″ s″ : List ℕ} → Took-next b′ s′ (drop bytes stream) size b″ s″
+    -- and then it is among those that are taken
+    pub underway-on : {size : ℕ} {b″ s″ : List ℕ} → TookNext b′ s′ (drop bytes stream) size b″ s″
         → Underway b s stream (bytes + size) (count + 1) b″ s″
     underway-on {size} {b″} {s″} took =
         let t = treeOf b′ in
@@ -121,7 +123,7 @@ module _ {b s stream : List ℕ} where
               (under .rest (joined size 1 a) b‴ s‴ whole);
         }
 
-    -- no command more
+    -- where no command more is done, the whole stream has left what stands
     pub underway-ends : {k : ℕ} {b″ s″ : List ℕ} → Stays b′ s′ (drop bytes stream) k b″ s″
         → LoadDone (treeOf b) (rowsOf s) (load (treeOf b) stream) (record { bytes = bytes; commands = count; number = k }) b″ s″
     underway-ends {k} {b″} {s″} stays =

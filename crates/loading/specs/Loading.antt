@@ -37,7 +37,7 @@ pub record Done (b s : List ℕ) (c : Meant) (b′ s′ : List ℕ) : Type 0 whe
   pub rows : RowsAfter (treeOf b) c (rowsOf s) (rowsOf s′)
 
 -- the next command of the bytes, which takes so many of them, is done
-pub record Took-next (b s bytes : List ℕ) (size : ℕ) (b′ s′ : List ℕ) : Type 0 where
+pub record TookNext (b s bytes : List ℕ) (size : ℕ) (b′ s′ : List ℕ) : Type 0 where
   pub command : Meant
   pub stands : next (treeOf b) bytes ≡ taken command size
   pub done : Done b s command b′ s′
@@ -50,7 +50,7 @@ pub record Stays (b s bytes : List ℕ) (k : ℕ) (b′ s′ : List ℕ) : Type 
 
 -- what became of the next command of the bytes
 abbrev pub Turned : List ℕ → List ℕ → List ℕ → Turn → List ℕ → List ℕ → Type 0
-Turned b s bytes (Took size) b′ s′ = Took-next b s bytes size b′ s′
+Turned b s bytes (Took size) b′ s′ = TookNext b s bytes size b′ s′
 Turned b s bytes (Stopped k) b′ s′ = Stays b s bytes k b′ s′
 
 -- so many bytes and commands, and then an answer

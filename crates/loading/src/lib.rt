@@ -6,7 +6,7 @@ ghost use Rattle.definitions.specs.Book.{treeOf, WellFormed};
 ghost use Rattle.definitions.specs.Sheet.{rowsOf};
 ghost use Rattle.definitions.specs.Truth.{TrueSheet};
 ghost use Rattle.definitions.specs.Load.{load};
-ghost use Rattle.definitions.specs.Calls.{LoadAnswer, LoadDone, LoadSays};
+ghost use Rattle.definitions.specs.Calls.{LoadDone, LoadSays};
 ghost use Rattle.reading.specs.Meaning.{commandOf};
 ghost use Rattle.loading.specs.Loading.{Asked, Done, Turned, answerOf};
 use reading::Command;

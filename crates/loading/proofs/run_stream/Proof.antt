@@ -6,7 +6,7 @@ use native.Mathlib.Omega.{arith}
 use denote.Ref.{now}
 use lib.ListN.{length, drop}
 use borrow.Author.Needs.{needs}
-use Rattle.loading.specs.Loading.{Took-next, Stays, Underway}
+use Rattle.loading.specs.Loading.{TookNext, Stays, Underway}
 use Rattle.loading.proofs.Turns.{turned-took, turned-stays, turn-size, underway-starts, underway-on, underway-ends}
 use Rattle.loading.proofs.run_stream.Statement.{statement}
 use Rattle.loading.proofs.run_stream.Tie as tie
@@ -26,13 +26,14 @@ take-next-requires c κs = let l = c .before .before .loop in (l .inv .formed, l
 enum-known-size : tie.Need-enum-known-size Inv-loop μ-loop
 enum-known-size c = search needs
 
--- the command that is done, and its size
+-- the command that is done
 took : (c : tie.After-known-told Inv-loop μ-loop)
     → let l = c .before .before .before .before .before .before .before .before .before .before .loop in
     let n = c .before .before .before .before .before .before .before .take-next in
-    Took-next (l .book) (l .sheet) (drop (l .taken) (now (c .before .before .before .before .before .before .before .before .before .before .before .before .before .before .args .stream))) (c .before .size .given .0 .0) (n .last .0) (n .last .1 .0)
+    TookNext (l .book) (l .sheet) (drop (l .taken) (now (c .before .before .before .before .before .before .before .before .before .before .before .before .before .before .args .stream))) (c .before .size .given .0 .0) (n .last .0) (n .last .1 .0)
 took c = turned-took (c .before .size .given .1) (c .before .before .before .before .before .before .before .take-next .ensures)
 
+-- how many bytes it takes
 size : (c : tie.After-known-told Inv-loop μ-loop)
     → let k = c .before .size .given .0 .0 in
     (0 < k) × (c .before .before .before .before .before .before .before .before .before .before .loop .taken + k ≤ length (now (c .before .before .before .before .before .before .before .before .before .before .before .before .before .before .args .stream)))
