@@ -38,7 +38,7 @@ pub not-true-false : {b : Bool} → (b ≡ true → ⊥) → b ≡ false
 not-true-false {b} h = ⊎-elim (λ holds. absurd (h holds)) (λ e. e) (decided b)
 
 -- a number is in range
-in-range : {k limit : ℕ} → not (ltb k limit) ≡ false → k < limit
+pub in-range : {k limit : ℕ} → not (ltb k limit) ≡ false → k < limit
 in-range {k} {limit} e = ltb-true k limit (not-false (ltb k limit) e)
 
 -- a value is there
@@ -243,7 +243,7 @@ pub record TakenCrown (t : Tree) (m n : ℕ) : Type 0 where
   pub none-lowest : (k p : ℕ) → k < nodes → t .owner k ≡ some p → level t k ≡ levels → ⊥
 
 -- no number under the limit passes the test
-none-below : (k : ℕ) (p : ℕ → Bool) → anyBelow k p ≡ false → (n : ℕ) → n < k → p n ≡ false
+pub none-below : (k : ℕ) (p : ℕ → Bool) → anyBelow k p ≡ false → (n : ℕ) → n < k → p n ≡ false
 unfolding anyBelow
 none-below zero p e n small = absurd (omega arith)
 none-below (suc k) p e n small =
@@ -267,7 +267,7 @@ taken-crown t m n e =
     }
 
 -- where no number under the limit passes the test, none is found
-below-none : (k : ℕ) (p : ℕ → Bool) → ((n : ℕ) → n < k → p n ≡ false) → anyBelow k p ≡ false
+pub below-none : (k : ℕ) (p : ℕ → Bool) → ((n : ℕ) → n < k → p n ≡ false) → anyBelow k p ≡ false
 unfolding anyBelow
 below-none zero p off = refl
 below-none (suc k) p off = rw (off k (omega arith)) (below-none k p (λ n small. off n (omega arith)))

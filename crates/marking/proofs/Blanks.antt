@@ -37,6 +37,7 @@ word-owner none m hm = sym (ne-eqb absent m (omega arith))
 word-owner (some p) m hm = refl
 
 module _ (t : Tree) (m n : ℕ) (hm : m < machines) {w : ℕ} (told : w ≡ word (t .owner n)) where
+  -- whether m owns node n, by the owner's word
   owned-word : ownedBy t m n ≡ eqb w m
   owned-word = word-owner (t .owner n) m hm ∙ ap (λ v. eqb v m) (sym told)
 
@@ -56,6 +57,7 @@ module _ (t : Tree) (m n : ℕ) (hm : m < machines) {w : ℕ} (told : w ≡ word
       (λ off. rw (ne-eqb k n off) (and-false (ownedBy t m k)))
       (equal-or-not k n)
 
+  -- so nothing is to be done for the one, and the other's row is made blank
   pub blank-other : (ws : List ℕ) → length ws ≡ sheetLength → (w ≡ m → ⊥) → LeavesBlank ws ws (ownedAt t m n)
   blank-other ws l ne = leaves-same (untouched ws l) (ap (withBlankNodes (rowsOf ws)) (sym (other-none ne)))
 
@@ -89,6 +91,7 @@ module _ (t : Tree) (m : ℕ) where
   under-more : (i : ℕ) → (λ k. ownedUnder t m i k || ownedAt t m i k) ≡ ownedUnder t m (i + 1)
   under-more i = fun-ext λ k. go k (ownedBy t m k)
     where
+      -- below i + 1
       below : (k : ℕ) → (ltb k i || eqb k i) ≡ ltb k (i + 1)
       below k = pick (ltb k i) refl (equal-or-not k i)
         where

@@ -18,7 +18,7 @@ use Rattle.definitions.specs.Book.{word, number, treeOf, WellFormed}
 use Rattle.definitions.specs.Sheet.{Rows, costOf, machineRowWord, rowsOf}
 use Rattle.definitions.specs.Truth.{BlankMachine, BlankNode, BlankRule, TrueSheet}
 use Rattle.definitions.specs.Edit.{withStale}
-use Rattle.definitions.proofs.Options.{present, none-some, bind-some, some-same, true-false, decided, equal-or-not, put-other, isAt-some}
+use Rattle.definitions.proofs.Options.{none-some, bind-some, some-same, true-false, decided, equal-or-not, put-other, isAt-some}
 use Rattle.definitions.proofs.Path.{Deep, at-root, under, deep, deep-unique, level-on}
 use Rattle.definitions.proofs.Words.{same-rows, present-word, no-holder}
 use Rattle.definitions.proofs.Commands.{over-top, over-up, over-climbs}
@@ -89,23 +89,27 @@ unless-none false = refl
 
 -- a machine that is marked first is one of those that are marked
 module _ (t : Tree) (a : ℕ → Bool) (r : Rows) (m : ℕ) where
+  -- marks
   one-mark : (p : ℕ) → (a p || put (r .stale) m true p) ≡ (eqb m p || a p || r .stale p)
   one-mark p =
       ⊎-elim (λ e. rw (eq-eqb p m e, eq-eqb m p (sym e)) (or-true (a p)))
       (λ ne. rw (ne-eqb p m ne, ne-eqb m p (λ e. ne (sym e)))) (equal-or-not p m)
 
+  -- machines' rows
   one-row : (p x : ℕ) (unused : Bool) (f : ℕ → ℕ → Option ℕ)
       → unless (unused || a p) (put f m (λ y. none) p x) ≡ unless (unused || (eqb m p || a p)) (f p x)
   one-row p x unused f =
       ⊎-elim (λ e. rw (eq-eqb p m e, eq-eqb m p (sym e), or-true unused) (unless-none (unused || a p)))
       (λ ne. rw (ne-eqb p m ne, ne-eqb m p (λ e. ne (sym e)))) (equal-or-not p m)
 
+  -- nodes' rows
   one-node : (o c : Option ℕ) → unless (option true a o) (unless (isAt o m) c) ≡ unless (option true (λ p. eqb m p || a p) o) c
   one-node none c = refl
   one-node (some p) c =
       ⊎-elim (λ e. rw (eq-eqb p m e, eq-eqb m p (sym e)) (unless-none (a p)))
       (λ ne. rw (ne-eqb p m ne, ne-eqb m p (λ e. ne (sym e)))) (equal-or-not p m)
 
+  -- all rows
   pub one-more : withStale t a (withStaleMachine t r m) ≡ withStale t (λ p. eqb m p || a p) r
   unfolding withStale
   one-more =
@@ -179,6 +183,7 @@ pub record Climbing (t : Tree) (before after : List ℕ) (n k : ℕ) : Type 0 wh
   -- among the machines over k, those above a stale one are stale
   pub up : (m p : ℕ) → over t m k ≡ true → rowsOf after .stale m ≡ true → parent t m ≡ some p → rowsOf after .stale p ≡ true
 
+-- at first
 pub climb-starts : (t : Tree) (ws : List ℕ) (n : ℕ) → TrueSheet t ws → Used t n → Climbing t ws ws n n
 climb-starts t ws n sheet used =
     record {
@@ -267,6 +272,7 @@ module _ (book : List ℕ) (w : WellFormed book) {before after : List ℕ} {n k 
     pub machine-range : o < machines
     machine-range = owner-told book w k (c .used) owner .1
 
+    -- which owns it
     own : treeOf book .owner k ≡ some o
     own = owner-told book w k (c .used) owner .0
 
@@ -281,12 +287,13 @@ module _ (book : List ℕ) (w : WellFormed book) {before after : List ℕ} {n k 
       pub ends-told : h ≡ absent → LeavesStaleOver (treeOf book) n before last
       ends-told free = climb-ends (w .sound) c own left (no-holder (treeOf book) (w .sound) o holder free)
 
-      -- node h holds it, which is one level higher
+      -- node h holds it: on from there
       held : (h ≡ absent → ⊥) → treeOf book .holder o ≡ some h
       held present = present-word (treeOf book .holder o) holder present
 
       pub goes-on-told : (h ≡ absent → ⊥) → Climbing (treeOf book) before last n h
       goes-on-told present = climb-goes-on (w .sound) c own left (held present)
 
+      -- a level higher
       pub higher-told : (h ≡ absent → ⊥) → level (treeOf book) h < level (treeOf book) k
       higher-told present = omega (arith, level-on (w .sound) own (held present))

@@ -8,6 +8,7 @@ use native.Mathlib.Nat.{add-zero, zero-add, add-suc, suc-add, le-of-suc-le-suc, 
 use lib.Dec.{T}
 use lib.ListN.{length, getD}
 
+-- two tests that pass together pass one by one
 both-left : (a b : Bool) → T (a && b) → T a
 both-left true b t = tt
 both-left false b t = t
@@ -21,6 +22,7 @@ abbrev pub every : (ℕ → ℕ → Bool) → ℕ → List ℕ → Bool
 every f i [] = true
 every f i (x ∷ xs) = f i x && every f (suc i) xs
 
+-- the test passes at place i + k of the whole where the list begins at i
 from : (f : ℕ → ℕ → Bool) (xs : List ℕ) (i : ℕ) (d : ℕ) → T (every f i xs) → (k : ℕ) → k < length xs → T (f (i + k) (getD xs k d))
 from f [] i d t k h = absurd (not-suc-le-zero h)
 from f (x ∷ xs) i d t zero h = subst (λ (m : ℕ). T (f m x)) (sym (add-zero i)) (both-left (f i x) (every f (suc i) xs) t)

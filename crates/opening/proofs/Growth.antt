@@ -17,9 +17,9 @@ use Rattle.definitions.proofs.Options.{equal-or-not, isAt-some, bind-some}
 use Rattle.definitions.proofs.Words.{under-in, word-number, same-tree}
 use Rattle.opening.specs.Table.{lastUnder, cell, rowOwner, rowBelow, rowStart, nextLower, neighbour, linked, grown, noTree}
 use Rattle.opening.specs.Writes.{setMachine, setNode, setHolder, setStart, setLink}
-use Rattle.opening.proofs.Last.{last-more, last-none, last-under}
+use Rattle.opening.proofs.Last.{last-pass, last-skip, last-none, last-under}
 use Rattle.opening.proofs.Reading.{says}
-use Rattle.opening.proofs.Stores.{SameNodes, machine-store, node-store, encode-same}
+use Rattle.opening.proofs.Stores.{SameNodes, machine-fields, node-fields, machine-store, node-store, encode-same}
 
 -- ---- the tree on the way from n rows to n + 1
 
@@ -66,20 +66,6 @@ under-other k n o h = go (ltb n k) refl
     go true e = rw (lt-ltb n (suc k) (omega (arith, ltb-true n k e)))
     go false e = rw (le-ltb n (suc k) (omega (arith, ltb-false n k e, h)))
 
--- the words of a machine are the same where its holder and its start are
-machine-fields : (t u : Tree) (p j : ℕ) → j < machineFields → (j ≡ 0 → t .holder p ≡ u .holder p) → (j ≡ 1 → t .start p ≡ u .start p)
-    → machineField t p j ≡ machineField u p j
-machine-fields t u p zero hj holder start = ap word (holder refl)
-machine-fields t u p (suc zero) hj holder start = ap word (start refl)
-machine-fields t u p (suc (suc j)) hj holder start = absurd (omega arith)
-
--- the words of a node are the same where its owner, the machine below and its transitions are
-node-fields : (t u : Tree) (q j : ℕ) → (j ≡ 0 → t .owner q ≡ u .owner q) → (j ≡ 1 → t .below q ≡ u .below q)
-    → ((x : ℕ) → j ≡ suc (suc x) → t .transition q x ≡ u .transition q x) → nodeField t q j ≡ nodeField u q j
-node-fields t u q zero owner below transition = ap word (owner refl)
-node-fields t u q (suc zero) owner below transition = ap word (below refl)
-node-fields t u q (suc (suc x)) owner below transition = ap transitionWord (transition x refl)
-
 -- a machine's word at place k that names the last node that claims it: a node that claims machine w, where it claims one, is written
 claim : (t u : Tree) (k n w : ℕ) (b : Bool) (P : ℕ → ℕ → Bool) → k < machineFields → t .root ≡ u .root → SameNodes t u
     → ((p j : ℕ) → j < machineFields → (j ≡ k → ⊥) → machineField t p j ≡ machineField u p j)
@@ -92,7 +78,7 @@ claim t u k n w b P hk root nodes′ others old new here = go b refl (ltb w mach
   where
     -- machine p's word is as it was, where row n does not claim p
     kept : (p : ℕ) → P n p ≡ false → machineField t p k ≡ machineField u p k
-    kept p e = old p ∙ ap word (sym (last-more n (λ j. P j p) ∙ ap (λ (c : Bool). cond c (some n) (lastUnder n (λ j. P j p))) e)) ∙ sym (new p)
+    kept p e = old p ∙ ap word (sym (last-skip n (λ j. P j p) e)) ∙ sym (new p)
 
     same : ((p : ℕ) → p < machines → P n p ≡ false) → encode t ≡ encode u
     same e =
@@ -109,8 +95,7 @@ claim t u k n w b P hk root nodes′ others old new here = go b refl (ltb w mach
     go true eb true ed =
         let hw : w < machines = ltb-true w machines ed in
         let mine : P n w ≡ true = here w hw ∙ ap (λ (c : Bool). c && eqb w w) eb ∙ eq-eqb w w refl in
-        let written : machineField u w k ≡ n =
-        new w ∙ ap word (last-more n (λ j. P j w) ∙ ap (λ (c : Bool). cond c (some n) (lastUnder n (λ j. P j w))) mine) in
+        let written : machineField u w k ≡ n = new w ∙ ap word (last-pass n (λ j. P j w) mine) in
         ap (setMachine (encode t) w k) (sym written)
         ∙ machine-store t u w k hw hk root
         (λ p j hp hj other.
@@ -198,10 +183,11 @@ module _ (rows : List ℕ) (n : ℕ) (hn : n < nodes) where
   unfolding linked
   higher-kept q e =
       let p : ℕ → Bool = λ v. isAt (nextLower rows v) q in
-      ap neighbour (sym (last-more n p ∙ ap (λ (c : Bool). cond c (some n) (lastUnder n p)) e))
+      ap neighbour (sym (last-skip n p e))
 
   -- the transitions between node n and its next lower node are written
-  link-row : (a b h s : ℕ) → setLink (encode (stage rows a b h s n n)) n (word (nextLower rows n)) ≡ encode (stage rows a b h s (suc n) (suc n))
+  link-row : (a b h s : ℕ)
+      → setLink (encode (stage rows a b h s n n)) n (word (nextLower rows n)) ≡ encode (stage rows a b h s (suc n) (suc n))
   unfolding stage links linked neighbour transitionWord word
   link-row a b h s = go (nextLower rows n) refl
     where
@@ -239,7 +225,7 @@ module _ (rows : List ℕ) (n : ℕ) (hn : n < nodes) where
           let mine : isAt (nextLower rows n) w ≡ true = isAt-some w w e refl in
           let written : nodeField after w 3 ≡ n * costs + 1 =
           ap (λ (o : Option ℕ). transitionWord (neighbour o))
-          (last-more n p ∙ ap (λ (c : Bool). cond c (some n) (lastUnder n p)) mine) in
+          (last-pass n p mine) in
           ap (setNode (encode between) w 3) (sym written)
           ∙ node-store between after w 3 hw (omega arith) refl
           (λ p j hp hj. machine-fields between after p j hj (λ _. refl) (λ _. refl))
@@ -277,7 +263,8 @@ module _ (rows : List ℕ) (n : ℕ) (hn : n < nodes) where
 pub grown-none : (rows : List ℕ) → grown rows 0 ≡ noTree
 unfolding grown noTree linked neighbour
 grown-none rows =
-    same-tree (grown rows 0) noTree refl (λ n. under-out 0 n (rowOwner rows n) (omega arith)) (λ n. under-out 0 n (rowBelow rows n) (omega arith))
+    same-tree (grown rows 0) noTree refl (λ n. under-out 0 n (rowOwner rows n) (omega arith))
+    (λ n. under-out 0 n (rowBelow rows n) (omega arith))
     (λ m. last-none 0 (λ n. rowStart rows n && isAt (rowOwner rows n) m) (λ j h. absurd (omega arith)))
     (λ m. last-none 0 (λ n. isAt (rowBelow rows n) m) (λ j h. absurd (omega arith)))
     transition

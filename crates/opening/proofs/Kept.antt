@@ -1,4 +1,5 @@
--- The starts and holders of a table's tree are read back out of its book, so its root and its marks are too. Assumes nothing.
+-- The starts and holders of a table's tree are read back out of its book, so its root and its marks are too; and what an opening says
+-- of a book and a sheet. Assumes nothing.
 use mathlib.Core.Path.{_≡_, refl, _∙_, ap, ap₂}
 use mathlib.Core.Logic.{inl, inr, ⊎-elim}
 use mathlib.Core.Bool.{not, _&&_}
@@ -87,8 +88,8 @@ book-rooted rows ws r h e f =
     ap₂ (λ (l : List ℕ) (m : ℕ). set l 0 m) e root ∙ root-store t (rootOf t)
 
 -- a sheet with the marks of that book is the opening's
-pub sheet-marked : (rows book sheet : List ℕ) → rowCount rows ≤ nodes → book ≡ encode (rowTree rows) → sheet ≡ encodeRows (openRows (treeOf book))
-    → sheet ≡ encodeRows (openRows (rowTree rows))
+pub sheet-marked : (rows book sheet : List ℕ) → rowCount rows ≤ nodes → book ≡ encode (rowTree rows)
+    → sheet ≡ encodeRows (openRows (treeOf book)) → sheet ≡ encodeRows (openRows (rowTree rows))
 unfolding rowTree withRoot
 sheet-marked rows book sheet h e f =
     let s = grown-named rows (rowCount rows) h in

@@ -87,7 +87,8 @@ neighbour-given false v = refl
 -- ---- what rows that say the ladder's owners, machines below and starts say of the rest
 
 module _ (rows : List ℕ) (owner : (n : ℕ) → n < ladderNodes → rowOwner rows n ≡ some (n / 3))
-    (below : (n : ℕ) → n < ladderNodes → rowBelow rows n ≡ ladderBelow n) (start : (n : ℕ) → n < ladderNodes → rowStart rows n ≡ eqb (n % 3) 1)
+    (below : (n : ℕ) → n < ladderNodes → rowBelow rows n ≡ ladderBelow n)
+    (start : (n : ℕ) → n < ladderNodes → rowStart rows n ≡ eqb (n % 3) 1)
   where
     -- a row of machine m
     owned : (n m : ℕ) → n < ladderNodes → isAt (rowOwner rows n) m ≡ eqb (n / 3) m
@@ -126,7 +127,8 @@ module _ (rows : List ℕ) (owner : (n : ℕ) → n < ladderNodes → rowOwner r
 
         go : (k : ℕ) → lastUnder ladderNodes (λ n. isAt (rowBelow rows n) k) ≡ ladderHolder k
         go zero =
-            last-none ladderNodes (λ n. isAt (rowBelow rows n) 0) (λ n h. refuted (isAt (rowBelow rows n) 0) (λ e. omega (arith, found 0 n h e)))
+            last-none ladderNodes (λ n. isAt (rowBelow rows n) 0)
+            (λ n h. refuted (isAt (rowBelow rows n) 0) (λ e. omega (arith, found 0 n h e)))
         go (suc p) = held (ltb (suc p) ladderMachines) refl
           where
             held : (b : Bool) → ltb (suc p) ladderMachines ≡ b
@@ -141,7 +143,8 @@ module _ (rows : List ℕ) (owner : (n : ℕ) → n < ladderNodes → rowOwner r
                 (λ j l f. rw back at (found (suc p) j l f .2))
             held false e =
                 last-none ladderNodes (λ n. isAt (rowBelow rows n) (suc p))
-                (λ n h. refuted (isAt (rowBelow rows n) (suc p)) (λ f. omega (arith, found (suc p) n h f, ltb-false (suc p) ladderMachines e)))
+                (λ n h.
+                refuted (isAt (rowBelow rows n) (suc p)) (λ f. omega (arith, found (suc p) n h f, ltb-false (suc p) ladderMachines e)))
 
     -- the next lower node of node n
     lower-found : (n : ℕ) → n < ladderNodes → nextLower rows n ≡ given (ltb 0 (n % 3)) (n - 1)
@@ -198,7 +201,8 @@ module _ (rows : List ℕ) (owner : (n : ℕ) → n < ladderNodes → rowOwner r
         held : (m : ℕ) → 0 < m → m < machines → free (grown rows ladderNodes) m ≡ false
         held zero above under = absurd (omega arith)
         held (suc p) above under =
-            rw (start-found (suc p), holder-found (suc p)) (used-free (ltb (suc p) ladderMachines) (3 * suc p + 1) (3 * (p / 2) + 2 * (p % 2)))
+            rw (start-found (suc p), holder-found (suc p))
+            (used-free (ltb (suc p) ladderMachines) (3 * suc p + 1) (3 * (p / 2) + 2 * (p % 2)))
 
     -- together they say the ladder
     ladder-found : withRoot (grown rows ladderNodes) (rootOf (grown rows ladderNodes)) ≡ ladderTree

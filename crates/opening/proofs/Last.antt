@@ -3,11 +3,8 @@ use mathlib.Core.Path.{_≡_, refl}
 use mathlib.Core.Logic.{⊎-elim}
 use mathlib.Core.Bool.{Bool, true, false, cond}
 use mathlib.Core.Option.{none, some}
-use mathlib.Core.List.{List, [], _∷_}
 use Prim.Native.Nat.{ℕ, zero, suc, _<_}
-use native.Mathlib.Nat.{not-suc-le-zero, le-of-suc-le-suc}
 use native.Mathlib.Omega.{arith}
-use lib.ListN.{length, getD}
 use Rattle.definitions.proofs.Options.{equal-or-not, some-same, none-some}
 use Rattle.opening.specs.Table.{lastUnder}
 
@@ -17,9 +14,14 @@ refuted true h = absurd (h refl)
 refuted false h = refl
 
 -- one number more: it is the greatest where it passes
-pub last-more : (k : ℕ) (p : ℕ → Bool) → lastUnder (suc k) p ≡ cond (p k) (some k) (lastUnder k p)
+pub last-pass : (k : ℕ) (p : ℕ → Bool) → p k ≡ true → lastUnder (suc k) p ≡ some k
 unfolding lastUnder
-last-more k p = refl
+last-pass k p e = rw e
+
+-- and else nothing changes
+pub last-skip : (k : ℕ) (p : ℕ → Bool) → p k ≡ false → lastUnder (suc k) p ≡ lastUnder k p
+unfolding lastUnder
+last-skip k p e = rw e
 
 -- where no number under the limit passes there is none
 pub last-none : (k : ℕ) (p : ℕ → Bool) → ((j : ℕ) → j < k → p j ≡ false) → lastUnder k p ≡ none
@@ -57,9 +59,3 @@ pub last-same : (k : ℕ) (p q : ℕ → Bool) → ((j : ℕ) → j < k → p j 
 unfolding lastUnder
 last-same zero p q h = refl
 last-same (suc k) p q h = rw (h k (omega arith), last-same k p q (λ j l. h j (omega arith)))
-
--- what a list holds at a place inside it does not depend on what it gives past its end
-pub getD-any : (l : List ℕ) (i d e : ℕ) → i < length l → getD l i d ≡ getD l i e
-getD-any [] i d e h = absurd (not-suc-le-zero h)
-getD-any (x ∷ xs) zero d e h = refl
-getD-any (x ∷ xs) (suc i) d e h = getD-any xs i d e (le-of-suc-le-suc h)

@@ -1,10 +1,10 @@
 pub mod Last
-pub mod Stores
-pub mod Growth
 pub mod Every
-pub mod Ladder
-pub mod Fresh
 pub mod Filling
+pub mod Stores
 pub mod Reading
-pub mod Blank
+pub mod Growth
 pub mod Kept
+pub mod Blank
+pub mod Fresh
+pub mod Ladder

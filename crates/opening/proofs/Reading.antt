@@ -13,7 +13,7 @@ use Rattle.definitions.specs.Limits.{machines, absent}
 use Rattle.definitions.specs.Book.{word, number, under, machineWord, treeOf}
 use Rattle.definitions.proofs.Options.{equal-or-not}
 use Rattle.opening.specs.Table.{lastUnder, cell, rowOwner, nextLower, free}
-use Rattle.opening.proofs.Last.{last-more, last-is}
+use Rattle.opening.proofs.Last.{last-is, last-skip}
 
 -- a number that a word says is there exactly where the word is not "none"
 told : (k i w : ℕ) → isSome (under k i (number w)) ≡ not (eqb (word (under k i (number w))) absent)
@@ -71,5 +71,5 @@ module _ (rows : List ℕ) where
   lower-passed i w h l e =
       let p : ℕ → Bool = λ j. isAt (rowOwner rows j) w in
       let up : i ≡ suc (i - 1) = omega arith in
-      ap (λ (k : ℕ). lastUnder k p) up ∙ last-more (i - 1) p
-      ∙ ap (λ (b : Bool). cond b (some (i - 1)) (lastUnder (i - 1) p)) (says (cell rows (i - 1) 0) w h ∙ ne-eqb (cell rows (i - 1) 0) w e)
+      ap (λ (k : ℕ). lastUnder k p) up
+      ∙ last-skip (i - 1) p (says (cell rows (i - 1) 0) w h ∙ ne-eqb (cell rows (i - 1) 0) w e)

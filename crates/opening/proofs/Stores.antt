@@ -8,12 +8,27 @@ use lib.ListN.{length, getD, set, length-set}
 use lib.Seq.{getD-set-same, getD-set-other}
 use Rattle.definitions.specs.Limits.{machines, nodes}
 use Rattle.definitions.specs.Tree.{Tree}
-use Rattle.definitions.specs.Book.{machineField, nodeField, machineFields, nodeFields, machineBase, nodeBase, encode, machineWord, nodeWord}
+use Rattle.definitions.specs.Book.{word, transitionWord, machineField, nodeField, machineFields, nodeFields, machineBase, nodeBase}
+use Rattle.definitions.specs.Book.{encode, machineWord, nodeWord}
 use Rattle.definitions.proofs.Options.{equal-or-not}
 use Rattle.definitions.proofs.Lists.{place-record, place-element}
 use Rattle.definitions.proofs.Words.{encode-length, encode-is, root-word, machine-word, node-word}
 use Rattle.opening.specs.Table.{withRoot}
 use Rattle.opening.specs.Writes.{setMachine, setNode}
+
+-- the words of a machine are the same where its holder and its start are
+pub machine-fields : (t u : Tree) (p j : ℕ) → j < machineFields → (j ≡ 0 → t .holder p ≡ u .holder p) → (j ≡ 1 → t .start p ≡ u .start p)
+    → machineField t p j ≡ machineField u p j
+machine-fields t u p zero hj holder start = ap word (holder refl)
+machine-fields t u p (suc zero) hj holder start = ap word (start refl)
+machine-fields t u p (suc (suc j)) hj holder start = absurd (omega arith)
+
+-- the words of a node are the same where its owner, the machine below and its transitions are
+pub node-fields : (t u : Tree) (q j : ℕ) → (j ≡ 0 → t .owner q ≡ u .owner q) → (j ≡ 1 → t .below q ≡ u .below q)
+    → ((x : ℕ) → j ≡ suc (suc x) → t .transition q x ≡ u .transition q x) → nodeField t q j ≡ nodeField u q j
+node-fields t u q zero owner below transition = ap word (owner refl)
+node-fields t u q (suc zero) owner below transition = ap word (below refl)
+node-fields t u q (suc (suc x)) owner below transition = ap transitionWord (transition x refl)
 
 -- two trees have the same fields in a machine's record, but for place k of machine m
 abbrev pub MachinesBut : Tree → Tree → ℕ → ℕ → Type 0
@@ -23,6 +38,7 @@ MachinesBut t u m k = (p j : ℕ) → p < machines → j < machineFields → (p 
 abbrev pub NodesBut : Tree → Tree → ℕ → ℕ → Type 0
 NodesBut t u n k = (q j : ℕ) → q < nodes → j < nodeFields → (q ≡ n → j ≡ k → ⊥) → nodeField t q j ≡ nodeField u q j
 
+-- and without exception
 abbrev pub SameMachines : Tree → Tree → Type 0
 SameMachines t u = (p j : ℕ) → p < machines → j < machineFields → machineField t p j ≡ machineField u p j
 
@@ -85,18 +101,6 @@ node-store t u n k hn hk root machine node =
     w : ℕ
     w = nodeField u n k
 
--- another root leaves every other field
-rooted-machine : (t : Tree) (m p j : ℕ) → machineField t p j ≡ machineField (withRoot t m) p j
-unfolding withRoot
-rooted-machine t m p zero = refl
-rooted-machine t m p (suc j) = refl
-
-rooted-node : (t : Tree) (m n j : ℕ) → nodeField t n j ≡ nodeField (withRoot t m) n j
-unfolding withRoot
-rooted-node t m n zero = refl
-rooted-node t m n (suc zero) = refl
-rooted-node t m n (suc (suc x)) = refl
-
 -- the root is written
 pub root-store : (t : Tree) (m : ℕ) → set (encode t) 0 m ≡ encode (withRoot t m)
 unfolding machineWord nodeWord withRoot
@@ -104,9 +108,11 @@ root-store t m =
     encode-is (set (encode t) 0 m) (withRoot t m) (length-set (encode t) 0 m ∙ encode-length t)
     (getD-set-same (encode t) 0 m 0 (omega (arith, encode-length t)))
     (λ p j hp hj.
-    getD-set-other (encode t) 0 (machineBase + p * machineFields + j) m 0 (omega arith) ∙ machine-word t p j hp hj ∙ rooted-machine t m p j)
+    getD-set-other (encode t) 0 (machineBase + p * machineFields + j) m 0 (omega arith) ∙ machine-word t p j hp hj
+    ∙ machine-fields t (withRoot t m) p j hj (λ _. refl) (λ _. refl))
     (λ n j hn hj.
-    getD-set-other (encode t) 0 (nodeBase + n * nodeFields + j) m 0 (omega arith) ∙ node-word t n j hn hj ∙ rooted-node t m n j)
+    getD-set-other (encode t) 0 (nodeBase + n * nodeFields + j) m 0 (omega arith) ∙ node-word t n j hn hj
+    ∙ node-fields t (withRoot t m) n j (λ _. refl) (λ _. refl) (λ x _. refl))
 
 -- two trees with the same words are written alike
 pub encode-same : (t u : Tree) → t .root ≡ u .root → SameMachines t u → SameNodes t u → encode t ≡ encode u

@@ -5,9 +5,11 @@ use mathlib.Core.List.{List}
 use Prim.Native.Nat.{ℕ, zero, suc, _+_, _*_, _≤_, _<_}
 use lib.Dec.{eqb, ltb}
 use lib.ListN.{length, getD, set}
-use Rattle.definitions.specs.Limits.{machines, nodes, commands, costs, absent, blank}
+use Rattle.definitions.specs.Limits.{machines, nodes, commands, costs, sheetLength, absent, blank}
+use Rattle.definitions.specs.Tree.{Tree}
 use Rattle.definitions.specs.Book.{machineBase, machineFields, nodeBase, nodeFields}
-use Rattle.definitions.specs.Sheet.{machineRowLength, nodeRowLength, nodeRowBase}
+use Rattle.definitions.specs.Sheet.{machineRowLength, nodeRowLength, nodeRowBase, encodeRows}
+use Rattle.definitions.specs.Open.{openRows}
 
 -- a list with w written at k places, from the place i on
 unfoldable pub filled : List ℕ → ℕ → ℕ → ℕ → List ℕ
@@ -49,10 +51,18 @@ unusedNode ws n = filled (filled ws (nodeBase + n * nodeFields) 2 absent) (nodeB
 -- machine m's row with the mark w and all else blank
 abbrev pub blankMachine : List ℕ → ℕ → ℕ → List ℕ
 blankMachine ws m w =
-    filled (filled (set ws (m * machineRowLength) w) (m * machineRowLength + 1) commands blank) (m * machineRowLength + 1 + commands) commands
-    absent
+    filled (filled (set ws (m * machineRowLength) w) (m * machineRowLength + 1) commands blank)
+    (m * machineRowLength + 1 + commands) commands absent
 
 -- node n's row, all blank
 abbrev pub blankNode : List ℕ → ℕ → List ℕ
 blankNode ws n =
     filled (set ws (nodeRowBase + n * nodeRowLength) blank) (nodeRowBase + n * nodeRowLength + 1) 2 absent
+
+-- the machines' rows are those of an opening
+abbrev pub MachinesStale : Tree → List ℕ → Type 0
+MachinesStale t ws = Upto sheetLength (encodeRows (openRows t)) ws nodeRowBase
+
+-- where they are, the sheet vs after is an opening's
+abbrev pub NodesBlanked : List ℕ → List ℕ → Type 0
+NodesBlanked ws vs = (t : Tree) → MachinesStale t ws → vs ≡ encodeRows (openRows t)

@@ -4,13 +4,14 @@ ghost use mathlib.Core.Path.{_≡_};
 ghost use Prim.Native.Nat.{_+_, _≤_, _<_};
 ghost use lib.ListN.{length};
 ghost use Rattle.definitions.specs.Limits.{machines, nodes, bookLength, sheetLength};
-ghost use Rattle.definitions.specs.Tree.{Tree, usedMachine};
+ghost use Rattle.definitions.specs.Tree.{usedMachine};
 ghost use Rattle.definitions.specs.Book.{word, machineFields, nodeFields, encode, treeOf};
-ghost use Rattle.definitions.specs.Sheet.{staleWord, nodeRowBase, encodeRows};
+ghost use Rattle.definitions.specs.Sheet.{staleWord, encodeRows};
 ghost use Rattle.definitions.specs.Open.{freshTree, ladderTree, openRows};
 ghost use Rattle.definitions.specs.Calls.{OpenSays};
 ghost use Rattle.opening.specs.Table.{rowLength, rowCount, cell, nextLower, grown, free, rootOf, rowTree, noTree};
-ghost use Rattle.opening.specs.Writes.{filled, Upto, setMachine, setNode, setHolder, setStart, setLink, unusedNode, blankMachine, blankNode};
+ghost use Rattle.opening.specs.Writes.{filled, setMachine, setNode, setHolder, setStart, setLink, unusedNode};
+ghost use Rattle.opening.specs.Writes.{blankMachine, blankNode, MachinesStale, NodesBlanked};
 
 mod table;
 
@@ -30,7 +31,7 @@ fn fill(list: &mut [u32], i: usize, count: usize, w: u32)
 }
 
 // Leaves node n's record in a book as an unused node has it.
-pub fn unused_node(book: &mut [u32], n: u32)
+fn unused_node(book: &mut [u32], n: u32)
     requires { ⌜ (length (now book) ≡ bookLength) × (n < nodes) ⌝ }
     ensures { λ _. ⌜ now (book .exit) ≡ unusedNode (now (book .entry)) n ⌝ }
 {
@@ -40,7 +41,7 @@ pub fn unused_node(book: &mut [u32], n: u32)
 }
 
 // Leaves no machine and no node in a book.
-pub fn clear(book: &mut [u32])
+fn clear(book: &mut [u32])
     requires { ⌜ length (now book) ≡ bookLength ⌝ }
     ensures { λ _. ⌜ now (book .exit) ≡ encode noTree ⌝ }
 {
@@ -197,18 +198,18 @@ fn open_book(book: &mut [u32], rows: &[u32])
 }
 
 // Leaves machine m's row in a sheet blank but for its mark.
-pub fn blank_machine(sheet: &mut [u32], m: u32, mark: u32)
+fn blank_machine(sheet: &mut [u32], m: u32, stale: u32)
     requires { ⌜ (length (now sheet) ≡ sheetLength) × (m < machines) ⌝ }
-    ensures { λ _. ⌜ now (sheet .exit) ≡ blankMachine (now (sheet .entry)) m mark ⌝ }
+    ensures { λ _. ⌜ now (sheet .exit) ≡ blankMachine (now (sheet .entry)) m stale ⌝ }
 {
     let i = 33 * (m as usize);
-    sheet[i] = mark;
+    sheet[i] = stale;
     fill(sheet, i + 1, 16, book::BLANK);
     fill(sheet, i + 17, 16, book::ABSENT);
 }
 
 // Leaves node n's row in a sheet blank.
-pub fn blank_node(sheet: &mut [u32], n: u32)
+fn blank_node(sheet: &mut [u32], n: u32)
     requires { ⌜ (length (now sheet) ≡ sheetLength) × (n < nodes) ⌝ }
     ensures { λ _. ⌜ now (sheet .exit) ≡ blankNode (now (sheet .entry)) n ⌝ }
 {
@@ -217,8 +218,8 @@ pub fn blank_node(sheet: &mut [u32], n: u32)
     fill(sheet, i + 1, 2, book::ABSENT);
 }
 
-// The mark of machine m where every machine in use is marked.
-fn mark(book: &[u32], m: u32) -> u32
+// The mark of machine m where every machine in use is stale.
+fn stale_word(book: &[u32], m: u32) -> u32
     requires { ⌜ (length (now book) ≡ bookLength) × (m < machines) ⌝ }
     ensures { λ r. ⌜ r ≡ staleWord (usedMachine (treeOf (now (book .entry))) m) ⌝ }
 {
@@ -229,13 +230,13 @@ fn mark(book: &[u32], m: u32) -> u32
 }
 
 // Marks every machine of a book, and leaves the rest of the machines' rows blank.
-fn mark_machines(book: &[u32], sheet: &mut [u32])
+fn stale_machines(book: &[u32], sheet: &mut [u32])
     requires { ⌜ (length (now book) ≡ bookLength) × (length (now sheet) ≡ sheetLength) ⌝ }
-    ensures { λ _. ⌜ Upto sheetLength (encodeRows (openRows (treeOf (now (book .entry))))) (now (sheet .exit)) nodeRowBase ⌝ }
+    ensures { λ _. ⌜ MachinesStale (treeOf (now (book .entry))) (now (sheet .exit)) ⌝ }
 {
     let mut m: u32 = 0;
     while m < book::MACHINES {
-        blank_machine(sheet, m, mark(book, m));
+        blank_machine(sheet, m, stale_word(book, m));
         m += 1;
     }
 }
@@ -243,7 +244,7 @@ fn mark_machines(book: &[u32], sheet: &mut [u32])
 // Leaves the rows of all nodes in a sheet blank.
 fn blank_nodes(sheet: &mut [u32])
     requires { ⌜ length (now sheet) ≡ sheetLength ⌝ }
-    ensures { λ _. ⌜ ((t : Tree) → Upto sheetLength (encodeRows (openRows t)) (now (sheet .entry)) nodeRowBase → now (sheet .exit) ≡ encodeRows (openRows t)) ⌝ }
+    ensures { λ _. ⌜ NodesBlanked (now (sheet .entry)) (now (sheet .exit)) ⌝ }
 {
     let mut n: u32 = 0;
     while n < book::NODES {
@@ -253,11 +254,11 @@ fn blank_nodes(sheet: &mut [u32])
 }
 
 // Marks every machine of a book, and leaves all else in the sheet blank.
-pub fn mark_all(book: &[u32], sheet: &mut [u32])
+fn open_sheet(book: &[u32], sheet: &mut [u32])
     requires { ⌜ (length (now book) ≡ bookLength) × (length (now sheet) ≡ sheetLength) ⌝ }
     ensures { λ _. ⌜ now (sheet .exit) ≡ encodeRows (openRows (treeOf (now (book .entry)))) ⌝ }
 {
-    mark_machines(book, sheet);
+    stale_machines(book, sheet);
     blank_nodes(sheet);
 }
 
@@ -268,7 +269,23 @@ fn open_rows(book: &mut [u32], sheet: &mut [u32], rows: &[u32])
     ensures sheet { λ _. ⌜ now (sheet .exit) ≡ encodeRows (openRows (rowTree (now (rows .entry)))) ⌝ }
 {
     open_book(book, rows);
-    mark_all(book, sheet);
+    open_sheet(book, sheet);
+}
+
+// Opens the tree of a table's rows where both lists have their lengths, and gives 0; else 1, and nothing is written.
+fn open_table(book: &mut [u32], sheet: &mut [u32], rows: &[u32]) -> u32
+    requires { ⌜ rowCount (now rows) ≤ nodes ⌝ }
+    ensures { λ r.
+        ⌜ OpenSays (rowTree (now (rows .entry))) (now (book .entry)) (now (sheet .entry)) r (now (book .exit)) (now (sheet .exit)) ⌝ }
+{
+    if book.len() != book::BOOK {
+        return 1;
+    }
+    if sheet.len() != SHEET {
+        return 1;
+    }
+    open_rows(book, sheet, rows);
+    0
 }
 
 // Open fresh: makes root 0 with start node 0, marked, in the book and the sheet, and gives 0. It refuses a wrong length of either list
@@ -276,14 +293,7 @@ fn open_rows(book: &mut [u32], sheet: &mut [u32], rows: &[u32])
 pub fn open_fresh(book: &mut [u32], sheet: &mut [u32]) -> u32
     ensures { λ r. ⌜ OpenSays freshTree (now (book .entry)) (now (sheet .entry)) r (now (book .exit)) (now (sheet .exit)) ⌝ }
 {
-    if book.len() != book::BOOK {
-        return 1;
-    }
-    if sheet.len() != SHEET {
-        return 1;
-    }
-    open_rows(book, sheet, &table::FRESH);
-    0
+    open_table(book, sheet, &table::FRESH)
 }
 
 // Open ladder: makes the ladder's 63 machines, all marked, in the book and the sheet, and gives 0. It refuses a wrong length of either
@@ -291,12 +301,5 @@ pub fn open_fresh(book: &mut [u32], sheet: &mut [u32]) -> u32
 pub fn open_ladder(book: &mut [u32], sheet: &mut [u32]) -> u32
     ensures { λ r. ⌜ OpenSays ladderTree (now (book .entry)) (now (sheet .entry)) r (now (book .exit)) (now (sheet .exit)) ⌝ }
 {
-    if book.len() != book::BOOK {
-        return 1;
-    }
-    if sheet.len() != SHEET {
-        return 1;
-    }
-    open_rows(book, sheet, &table::LADDER);
-    0
+    open_table(book, sheet, &table::LADDER)
 }

@@ -82,5 +82,6 @@ module _ (bytes : List ℕ) (at : ℕ) where
         rw size (sym (ap readNext opcode-first ∙ read-whole op (drop (at + 1) bytes) (sym known) (omega (arith, behind))))
 
 -- a command that is read takes one byte at least, and none that is not there
-pub next-size : {bytes : List ℕ} {at : ℕ} {c : Command} {size : ℕ} → NextRead bytes at (Taken c size) → (0 < size) × (at + size ≤ length bytes)
+pub next-size : {bytes : List ℕ} {at : ℕ} {c : Command} {size : ℕ} → NextRead bytes at (Taken c size)
+    → (0 < size) × (at + size ≤ length bytes)
 next-size {bytes} {at} r = omega (arith, read-size (drop at bytes) (sym (r .next)), length-drop at bytes)

@@ -22,7 +22,7 @@ use Rattle.definitions.proofs.LocalTruth.{local-true, true-local}
 use Rattle.truesheet.specs.Fits.{MachineFits, MachinesFit, StartFits, FilledFits, NodeFits, NodesFit, ChainFits, ChainsFit, NamesFit}
 use Rattle.truesheet.proofs.Reading.{ReadRows, rowsOf-read, cost-outside, number-outside}
 
--- every machine, every node, every chain of names fits
+-- every machine, every node, every chain of names fits (where the nodes do, a reached node with none before it is its machine's start)
 abbrev pub AllFit : Tree → List ℕ → Type 0
 AllFit t ws = MachinesFit t ws × NodesFit t (rowsOf ws) × ChainsFit (rowsOf ws)
 

@@ -1,5 +1,5 @@
 -- `opening::blank_machine` meets its contract: the mark and the two fills are those of the row. Assumes nothing.
-use mathlib.Core.Path.{_≡_, _∙_, ap}
+use mathlib.Core.Path.{_≡_, _∙_, ap, ap₂}
 use mathlib.Core.List.{List}
 use Prim.Native.Nat.{ℕ, _+_, _*_}
 use native.Mathlib.Omega.{arith}
@@ -44,15 +44,18 @@ same-length c =
     ap length (c .before .before .fill2 .ensures)
     ∙ simp length-filled (ap length (fill .ensures) ∙ simp (length-filled, length-set))
 
+-- the row that begins at a place
+abbrev blankAt : List ℕ → ℕ → ℕ → List ℕ
+blankAt ws w i = filled (filled (set ws i w) (i + 1) commands blank) (i + 1 + commands) commands absent
+
 returns : tie.Need-returns
 returns c =
     let a = c .before .before .before .before .before .before .before .before .before .args in
     let place : 33 * a .m ≡ a .m * machineRowLength = omega arith in
-    let second : 33 * a .m + 17 ≡ a .m * machineRowLength + 1 + commands = omega arith in
+    let second : 33 * a .m + 17 ≡ 33 * a .m + 1 + commands = omega arith in
     c .before .before .fill2 .ensures
-    ∙ ap (λ (ws : List ℕ). filled ws (33 * a .m + 17) commands absent) (c .before .before .before .before .before .before .fill .ensures)
-    ∙ ap (λ (i : ℕ). filled (filled (set (now (a .sheet)) (33 * a .m) (a .mark)) (33 * a .m + 1) commands blank) i commands absent) second
-    ∙ ap (λ (i : ℕ). filled (filled (set (now (a .sheet)) i (a .mark)) (i + 1) commands blank) (a .m * machineRowLength + 1 + commands) commands absent) place
+    ∙ ap₂ (λ (ws : List ℕ) (i : ℕ). filled ws i commands absent) (c .before .before .before .before .before .before .fill .ensures) second
+    ∙ ap (blankAt (now (a .sheet)) (a .stale)) place
 
 pub blank-machine-spec : {M : Type 1} → statement M
 blank-machine-spec =

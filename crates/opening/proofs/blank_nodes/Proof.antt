@@ -44,7 +44,8 @@ loop-again c =
       omega arith,
       c .before .before .blank-node .kept .0 ∙ loop .inv .1,
       λ t u.
-          upto-as sheetLength (encodeRows (openRows t)) (nodeRowBase + (loop .n + 1) * nodeRowLength) (c .before .before .blank-node .ensures)
+          upto-as sheetLength (encodeRows (openRows t)) (nodeRowBase + (loop .n + 1) * nodeRowLength)
+          (c .before .before .blank-node .ensures)
           (node-blanked t (loop .sheet) (loop .n) (omega arith) (loop .inv .2 t u)),
     )
 

@@ -43,7 +43,9 @@ returns-2 c =
     let owner = before .before .before .row in
     let found = lower-met (now (a .rows)) (before .loop .i) (owner .result) (before .before .if1 .left) (omega arith)
     (sym (c .before .row2 .ensures) ∙ c .if2 .taken) in
-    sym (ap word (lower-last (now (a .rows)) (a .n) (owner .result) (owner .ensures) (before .before .if1 .left) ∙ before .loop .inv .1 ∙ found))
+    sym
+    (ap word
+    (lower-last (now (a .rows)) (a .n) (owner .result) (owner .ensures) (before .before .if1 .left) ∙ before .loop .inv .1 ∙ found))
 
 loop-less : tie.Need-loop-less Inv-loop μ-loop
 loop-less c = omega arith

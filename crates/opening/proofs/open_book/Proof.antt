@@ -25,7 +25,8 @@ same-length : tie.Need-same-length
 same-length c =
     let rows = c .before .before .before .before .set-rows in
     let start = c .before .before .before .before .before .before .before .before .before .before .before .before in
-    simp length-set (ap length (rows .ensures) ∙ encode-length (grown (now (start .args .rows)) (rowCount (now (start .args .rows)))) ∙ sym (start .pre .0))
+    let table = now (start .args .rows) in
+    simp length-set (ap length (rows .ensures) ∙ encode-length (grown table (rowCount table)) ∙ sym (start .pre .0))
 
 returns : tie.Need-returns
 returns c =

@@ -9,7 +9,7 @@ use borrow.Author.Needs.{needs}
 use Rattle.definitions.specs.Limits.{machines}
 use Rattle.definitions.specs.Book.{word, treeOf}
 use Rattle.opening.specs.Table.{lastUnder, free, rootOf}
-use Rattle.opening.proofs.Last.{last-more}
+use Rattle.opening.proofs.Last.{last-pass, last-skip}
 use Rattle.opening.proofs.root.Statement.{statement}
 use Rattle.opening.proofs.root.Tie as tie
 
@@ -35,9 +35,15 @@ loop-less c = omega arith
 loop-again : tie.Need-loop-again Inv-loop μ-loop
 unfolding word
 loop-again c =
-    let m = c .before .before .before .loop .m in
-    let p = free (treeOf (c .before .before .before .before .before .args .book .now)) in
-    (omega arith, rw (add-one m, last-more m p) (⊎-elim (λ w. rw (sym (c .before .is-free .ensures) ∙ w .0 .taken) (w .1)) (λ w. rw (sym (c .before .is-free .ensures) ∙ w .0 .left) (w .1 ∙ c .before .before .before .loop .inv .1)) (c .if1 .came)))
+    let loop = c .before .before .before .loop in
+    let p = free (treeOf (now (c .before .before .before .before .before .args .book))) in
+    let test = sym (c .before .is-free .ensures) in (
+      omega arith,
+      rw (add-one (loop .m))
+          (⊎-elim (λ w. w .1 ∙ ap word (sym (last-pass (loop .m) p (test ∙ w .0 .taken))))
+          (λ w. w .1 ∙ loop .inv .1 ∙ ap word (sym (last-skip (loop .m) p (test ∙ w .0 .left))))
+          (c .if1 .came)),
+    )
 
 returns : tie.Need-returns Inv-loop μ-loop
 unfolding rootOf

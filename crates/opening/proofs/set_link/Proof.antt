@@ -28,8 +28,8 @@ same-length c = search needs
 
 returns : tie.Need-returns
 returns c =
-    let a = c .before .before .before .before .before .before .before .before .before .before .args in
-    rw (lt-ltb (a .lower) nodes (c .before .before .before .before .before .before .before .before .if1 .taken)) (cc)
+    let tested = c .before .before .before .before .before .before .before .before in
+    rw (lt-ltb (tested .before .before .args .lower) nodes (tested .if1 .taken)) (cc)
 
 returns-2 : tie.Need-returns-2
 returns-2 c =

@@ -18,8 +18,10 @@ same-length c = search needs
 
 returns-2 : tie.Need-returns-2
 returns-2 c =
-    let a = c .before .before .before .before .before .before .before .args in
-    rw (eq-eqb (a .start) 1 (c .before .before .before .before .before .if1 .left), lt-ltb (a .owner) machines (c .before .before .before .before .if2 .taken)) (c .before .before .set-machine .ensures)
+    let tested = c .before .before .before .before in
+    let a = tested .before .before .before .args in
+    rw (eq-eqb (a .start) 1 (tested .before .if1 .left), lt-ltb (a .owner) machines (tested .if2 .taken))
+    (c .before .before .set-machine .ensures)
 
 returns-3 : tie.Need-returns-3
 returns-3 c =

@@ -33,8 +33,9 @@ returns-2 c =
     let o = c .before .before in
     let b = o .before in
     let a = b .before .before .before .args in
+    let none-known = ap operandsOf (sym (c .enum-told .given .1)) ∙ o .operand-length .ensures in
     record {
-      next = next-unknown (now (a .stream)) (a .taken) (b .byte .ensures .0) (b .before .if1 .left) (ap operandsOf (sym (c .enum-told .given .1)) ∙ o .operand-length .ensures);
+      next = next-unknown (now (a .stream)) (a .taken) (b .byte .ensures .0) (b .before .if1 .left) none-known;
       narrow = tt;
     }
 
@@ -50,7 +51,10 @@ returns-3 c =
     let z = c .before .before in
     let b = z .before .before .before in
     let a = b .before .before .before .args in
-    record { next = next-cut (now (a .stream)) (a .taken) (b .byte .ensures .0) (b .before .if1 .left) (known z) (c .if2 .taken); narrow = tt }
+    record {
+      next = next-cut (now (a .stream)) (a .taken) (b .byte .ensures .0) (b .before .if1 .left) (known z) (c .if2 .taken);
+      narrow = tt;
+    }
 
 decode-requires : tie.Need-decode-requires
 decode-requires c κs =

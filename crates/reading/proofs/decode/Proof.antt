@@ -11,159 +11,141 @@ use Rattle.reading.proofs.decode.Tie as tie
 
 operand-requires : tie.Need-operand-requires
 unfolding operandLength
-operand-requires c κs =
-    let m = c in
-    omega (arith, room (m .before .before .pre) 3 (ap operandLength (m .match .keys1)))
+operand-requires c κs = omega (arith, room (c .before .before .pre) 3 (ap operandLength (c .match .keys1)))
 
 operand-pair-requires : tie.Need-operand-pair-requires
 unfolding operandLength
-operand-pair-requires c κs =
-    let m = c .before in
-    omega (arith, room (m .before .before .pre) 3 (ap operandLength (m .match .keys1)))
+operand-pair-requires c κs = omega (arith, room (c .before .before .before .pre) 3 (ap operandLength (c .before .match .keys1)))
 
 operand-requires-2 : tie.Need-operand-requires-2
 unfolding operandLength
-operand-requires-2 c κs =
-    let m = c in
-    omega (arith, room (m .before .before .pre) 3 (ap operandLength (m .match .keys2)))
+operand-requires-2 c κs = omega (arith, room (c .before .before .pre) 3 (ap operandLength (c .match .keys2)))
 
 operand-pair-requires-2 : tie.Need-operand-pair-requires-2
 unfolding operandLength
-operand-pair-requires-2 c κs =
-    let m = c .before in
-    omega (arith, room (m .before .before .pre) 3 (ap operandLength (m .match .keys2)))
+operand-pair-requires-2 c κs = omega (arith, room (c .before .before .before .pre) 3 (ap operandLength (c .before .match .keys2)))
 
 operand-pair-requires-3 : tie.Need-operand-pair-requires-3
 unfolding operandLength
-operand-pair-requires-3 c κs =
-    let m = c in
-    omega (arith, room (m .before .before .pre) 5 (ap operandLength (m .match .keys3)))
+operand-pair-requires-3 c κs = omega (arith, room (c .before .before .pre) 5 (ap operandLength (c .match .keys3)))
 
 operand-requires-3 : tie.Need-operand-requires-3
 unfolding operandLength
-operand-requires-3 c κs =
-    let m = c .before in
-    omega (arith, room (m .before .before .pre) 5 (ap operandLength (m .match .keys3)))
+operand-requires-3 c κs = omega (arith, room (c .before .before .before .pre) 5 (ap operandLength (c .before .match .keys3)))
 
 operand-pair-requires-4 : tie.Need-operand-pair-requires-4
 unfolding operandLength
 operand-pair-requires-4 c κs =
-    let m = c .before .before in
-    omega (arith, room (m .before .before .pre) 5 (ap operandLength (m .match .keys3)))
+    omega (arith, room (c .before .before .before .before .pre) 5 (ap operandLength (c .before .before .match .keys3)))
 
 operand-pair-requires-5 : tie.Need-operand-pair-requires-5
 unfolding operandLength
-operand-pair-requires-5 c κs =
-    let m = c in
-    omega (arith, room (m .before .before .pre) 2 (ap operandLength (m .match .keys4)))
+operand-pair-requires-5 c κs = omega (arith, room (c .before .before .pre) 2 (ap operandLength (c .match .keys4)))
 
 operand-pair-requires-6 : tie.Need-operand-pair-requires-6
 unfolding operandLength
-operand-pair-requires-6 c κs =
-    let m = c in
-    omega (arith, room (m .before .before .pre) 7 (ap operandLength (m .match .keys5)))
+operand-pair-requires-6 c κs = omega (arith, room (c .before .before .pre) 7 (ap operandLength (c .match .keys5)))
 
 operand-requires-4 : tie.Need-operand-requires-4
 unfolding operandLength
-operand-requires-4 c κs =
-    let m = c .before in
-    omega (arith, room (m .before .before .pre) 7 (ap operandLength (m .match .keys5)))
+operand-requires-4 c κs = omega (arith, room (c .before .before .before .pre) 7 (ap operandLength (c .before .match .keys5)))
 
 operand-pair-requires-7 : tie.Need-operand-pair-requires-7
 unfolding operandLength
 operand-pair-requires-7 c κs =
-    let m = c .before .before in
-    omega (arith, room (m .before .before .pre) 7 (ap operandLength (m .match .keys5)))
+    omega (arith, room (c .before .before .before .before .pre) 7 (ap operandLength (c .before .before .match .keys5)))
 
 operand-pair-requires-8 : tie.Need-operand-pair-requires-8
 unfolding operandLength
 operand-pair-requires-8 c κs =
-    let m = c .before .before .before in
-    omega (arith, room (m .before .before .pre) 7 (ap operandLength (m .match .keys5)))
+    omega (arith, room (c .before .before .before .before .before .pre) 7 (ap operandLength (c .before .before .before .match .keys5)))
 
 operand-pair-requires-9 : tie.Need-operand-pair-requires-9
 unfolding operandLength
-operand-pair-requires-9 c κs =
-    let m = c in
-    omega (arith, room (m .before .before .pre) 3 (ap operandLength (m .match .keys6)))
+operand-pair-requires-9 c κs = omega (arith, room (c .before .before .pre) 3 (ap operandLength (c .match .keys6)))
 
 operand-requires-5 : tie.Need-operand-requires-5
 unfolding operandLength
-operand-requires-5 c κs =
-    let m = c .before in
-    omega (arith, room (m .before .before .pre) 3 (ap operandLength (m .match .keys6)))
+operand-requires-5 c κs = omega (arith, room (c .before .before .before .pre) 3 (ap operandLength (c .before .match .keys6)))
 
 operand-pair-requires-10 : tie.Need-operand-pair-requires-10
 unfolding operandLength
-operand-pair-requires-10 c κs =
-    let m = c in
-    omega (arith, room (m .before .before .pre) 2 (ap operandLength (m .match .keys7)))
+operand-pair-requires-10 c κs = omega (arith, room (c .before .before .pre) 2 (ap operandLength (c .match .keys7)))
 
 operand-requires-6 : tie.Need-operand-requires-6
 unfolding operandLength
-operand-requires-6 c κs =
-    let m = c in
-    omega (arith, room (m .before .before .pre) 3 (ap operandLength (m .match .keys8)))
+operand-requires-6 c κs = omega (arith, room (c .before .before .pre) 3 (ap operandLength (c .match .keys8)))
 
 operand-pair-requires-11 : tie.Need-operand-pair-requires-11
 unfolding operandLength
-operand-pair-requires-11 c κs =
-    let m = c .before in
-    omega (arith, room (m .before .before .pre) 3 (ap operandLength (m .match .keys8)))
+operand-pair-requires-11 c κs = omega (arith, room (c .before .before .before .pre) 3 (ap operandLength (c .before .match .keys8)))
 
 returns : tie.Need-returns
 unfolding decode
 returns c =
-    let m = c .before .before in
-    (rw (m .match .keys1, c .before .operand .ensures .0, c .operand-pair .ensures .0), (c .before .operand .ensures .1, c .operand-pair .ensures .1))
+    let machine = c .before .operand .ensures in
+    let node = c .operand-pair .ensures in
+    (rw (c .before .before .match .keys1, machine .0, node .0), (machine .1, node .1))
 
 returns-2 : tie.Need-returns-2
 unfolding decode
 returns-2 c =
-    let m = c .before .before in
-    (rw (m .match .keys2, c .before .operand2 .ensures .0, c .operand-pair2 .ensures .0), (c .before .operand2 .ensures .1, c .operand-pair2 .ensures .1))
+    let machine = c .before .operand2 .ensures in
+    let node = c .operand-pair2 .ensures in
+    (rw (c .before .before .match .keys2, machine .0, node .0), (machine .1, node .1))
 
 returns-3 : tie.Need-returns-3
 unfolding decode
 returns-3 c =
-    let m = c .before .before .before in
-    (rw (m .match .keys3, c .before .before .operand-pair3 .ensures .0, c .before .operand3 .ensures .0, c .operand-pair4 .ensures .0), (c .before .before .operand-pair3 .ensures .1, c .before .operand3 .ensures .1, c .operand-pair4 .ensures .1))
+    let node = c .before .before .operand-pair3 .ensures in
+    let machine = c .before .operand3 .ensures in
+    let first = c .operand-pair4 .ensures in
+    (rw (c .before .before .before .match .keys3, node .0, machine .0, first .0), (node .1, machine .1, first .1))
 
 returns-4 : tie.Need-returns-4
 unfolding decode
 returns-4 c =
-    let m = c .before in
-    (rw (m .match .keys4, c .operand-pair5 .ensures .0), c .operand-pair5 .ensures .1)
+    let node = c .operand-pair5 .ensures in
+    (rw (c .before .match .keys4, node .0), node .1)
 
 returns-5 : tie.Need-returns-5
 unfolding decode
 returns-5 c =
-    let m = c .before .before .before .before in
-    (rw (m .match .keys5, c .before .before .before .operand-pair6 .ensures .0, c .before .before .operand4 .ensures .0, c .before .operand-pair7 .ensures .0, c .operand-pair8 .ensures .0), (c .before .before .before .operand-pair6 .ensures .1, c .before .before .operand4 .ensures .1, c .before .operand-pair7 .ensures .1, c .operand-pair8 .ensures .1))
+    let node = c .before .before .before .operand-pair6 .ensures in
+    let command = c .before .before .operand4 .ensures in
+    let target = c .before .operand-pair7 .ensures in
+    let cost = c .operand-pair8 .ensures in
+    let key = c .before .before .before .before .match .keys5 in
+    (rw (key, node .0, command .0, target .0, cost .0), (node .1, command .1, target .1, cost .1))
 
 returns-6 : tie.Need-returns-6
 unfolding decode
 returns-6 c =
-    let m = c .before .before in
-    (rw (m .match .keys6, c .before .operand-pair9 .ensures .0, c .operand5 .ensures .0), (c .before .operand-pair9 .ensures .1, c .operand5 .ensures .1))
+    let node = c .before .operand-pair9 .ensures in
+    let command = c .operand5 .ensures in
+    (rw (c .before .before .match .keys6, node .0, command .0), (node .1, command .1))
 
 returns-7 : tie.Need-returns-7
 unfolding decode
 returns-7 c =
-    let m = c .before in
-    (rw (m .match .keys7, c .operand-pair10 .ensures .0), c .operand-pair10 .ensures .1)
+    let node = c .operand-pair10 .ensures in
+    (rw (c .before .match .keys7, node .0), node .1)
 
 returns-8 : tie.Need-returns-8
 unfolding decode
 returns-8 c =
-    let m = c .before .before in
-    (rw (m .match .keys8, c .before .operand6 .ensures .0, c .operand-pair11 .ensures .0), (c .before .operand6 .ensures .1, c .operand-pair11 .ensures .1))
+    let machine = c .before .operand6 .ensures in
+    let node = c .operand-pair11 .ensures in
+    (rw (c .before .before .match .keys8, machine .0, node .0), (machine .1, node .1))
 
 returns-9 : tie.Need-returns-9
 returns-9 c =
     let r = c .match .rest in
     let a = c .before .before .args in
-    (left-over (a .op) (drop (a .at + 1) (now (a .stream))) (r .0 .0 .0 .0 .0 .0 .0 .1) (r .0 .0 .0 .0 .0 .0 .1) (r .0 .0 .0 .0 .0 .1) (r .0 .0 .0 .0 .1) (r .0 .0 .0 .1) (r .0 .0 .1) (r .0 .1) (r .1), tt)
+    let none-such =
+    left-over (a .op) (drop (a .at + 1) (now (a .stream))) (r .0 .0 .0 .0 .0 .0 .0 .1) (r .0 .0 .0 .0 .0 .0 .1)
+    (r .0 .0 .0 .0 .0 .1) (r .0 .0 .0 .0 .1) (r .0 .0 .0 .1) (r .0 .0 .1) (r .0 .1) (r .1) in
+    (none-such, tt)
 
 pub decode-spec : {M : Type 1} → statement M
 decode-spec =

@@ -31,8 +31,8 @@ follow-requires c κs =
 
 returns : tie.Need-returns Inv-loop μ-loop
 returns c =
-    let z = c .before .before .before in
-    λ all. c .before .follow .ensures .far (c .if1 .taken) (all (z .before .loop .n) (z .loop-test .taken))
+    let t = c .before .before .before in
+    λ all. c .before .follow .ensures .far (c .if1 .taken) (all (t .before .loop .n) (t .loop-test .taken))
 
 settle-requires : tie.Need-settle-requires Inv-loop μ-loop
 settle-requires c κs =

@@ -1,0 +1,180 @@
+// Document 01's examples that need no sheet's truth, run: the mast book's words are stored by hand, and each line says what a call answered.
+use libc::STDOUT_FILENO;
+use stepping::StepAnswer;
+use writing::WriteAnswer;
+
+// Writes a text, then a number, then a newline.
+fn line(text: &[u8], n: u32) {
+    io::write_all(STDOUT_FILENO, text);
+    io::print_decimal(STDOUT_FILENO, n as u64);
+    io::write_all(STDOUT_FILENO, b"\n");
+}
+
+// Writes two numbers with a space before each.
+fn pair(text: &[u8], a: u32, b: u32) {
+    io::write_all(STDOUT_FILENO, text);
+    io::print_decimal(STDOUT_FILENO, a as u64);
+    io::write_all(STDOUT_FILENO, b" ");
+    io::print_decimal(STDOUT_FILENO, b as u64);
+    io::write_all(STDOUT_FILENO, b"\n");
+}
+
+// Whether two books have the same words.
+fn same(a: &[u32; 4737], b: &[u32; 4737]) -> u32 {
+    let mut i = 0usize;
+    while i < 4737 {
+        if a[i] != b[i] {
+            return 0;
+        }
+        i += 1;
+    }
+    1
+}
+
+// The mast book's words, over those of a book that was opened fresh.
+fn store_mast(book: &mut [u32; 4737]) {
+    book[3] = 1;
+    book[4] = 10;
+    book[131] = 65541;
+    book[133] = 131092;
+    book[147] = 0;
+    book[148] = 1;
+    book[150] = 131075;
+    book[165] = 0;
+    book[167] = 7;
+    book[309] = 1;
+    book[312] = 655361;
+    book[313] = 720900;
+    book[327] = 1;
+}
+
+fn show_step(text: &[u8], book: &[u32; 4737], state: u32, command: u32) {
+    match stepping::step(book, state, command) {
+        StepAnswer::Moved { state, cost } => pair(text, state, cost),
+        StepAnswer::Refused(k) => line(text, k),
+    }
+}
+
+fn write_front(text: &[u8], book: &[u32], out: &mut [u8], room: usize) {
+    if out.len() < room {
+        return;
+    }
+    match writing::write(book, &mut out[..room]) {
+        WriteAnswer::Written(n) => line(text, n),
+        WriteAnswer::Refused(k) => line(text, k),
+    }
+}
+
+fn show_write(text: &[u8], book: &[u32; 4737], out: &mut [u8; 72], room: usize) {
+    write_front(text, book, out, room);
+}
+
+fn show_choice<'a>(
+    text: &[u8],
+    book: &[u32; 4737],
+    a: u32,
+    b: u32,
+    first: &'a [u8],
+    second: &'a [u8],
+) {
+    let mut word = 9999u32;
+    let part = choosing::choose(book, a, b, first, second, &mut word);
+    pair(text, word, (part.len() % 65536) as u32);
+}
+
+// Puts a word that tears the book, asks for a step, and puts the old word back.
+fn tear(text: &[u8], book: &mut [u32; 4737], at: usize, word: u32) {
+    if at < 4737 {
+        let kept = book[at];
+        book[at] = word;
+        show_step(text, book, 0, 0);
+        book[at] = kept;
+    }
+}
+
+fn wide(x: u8) -> u64 {
+    x as u64
+}
+
+// Writes bytes in hexadecimal.
+fn dump(bytes: &[u8; 72]) {
+    let mut i = 0usize;
+    while i < 72 {
+        let b = bytes[i];
+        io::print_hex(STDOUT_FILENO, wide(b), 2);
+        i += 1;
+    }
+}
+
+// Open fresh with the book's first words lent.
+fn open_short(book: &mut [u32], sheet: &mut [u32], words: usize) -> u32 {
+    if book.len() < words {
+        return 0;
+    }
+    opening::open_fresh(&mut book[..words], sheet)
+}
+
+fn show_open(book: &mut [u32; 4737], sheet: &mut [u32; 2880]) {
+    line(b"open short: ", open_short(book, sheet, 4736));
+    line(b"untouched: ", same(book, &[7u32; 4737]));
+    line(b"open fresh: ", opening::open_fresh(book, sheet));
+}
+
+fn open_ladder(book: &mut [u32; 4737], sheet: &mut [u32; 2880]) -> u32 {
+    opening::open_ladder(book, sheet)
+}
+
+// A step with the book's first words lent.
+fn step_short(book: &[u32], words: usize) {
+    if book.len() < words {
+        return;
+    }
+    match stepping::step(&book[..words], 0, 0) {
+        StepAnswer::Moved { state, cost } => pair(b"short book: ", state, cost),
+        StepAnswer::Refused(k) => line(b"short book: ", k),
+    }
+}
+
+fn show_short(book: &[u32; 4737]) {
+    step_short(book, 4736);
+}
+
+fn main() {
+    let mut book = [7u32; 4737];
+    let mut sheet = [7u32; 2880];
+    show_open(&mut book, &mut sheet);
+    store_mast(&mut book);
+    let before = book;
+    show_step(b"step 11 by 1: ", &book, 11, 1);
+    show_step(b"step 11 by 0: ", &book, 11, 0);
+    show_step(b"step 1 by 0: ", &book, 1, 0);
+    show_step(b"step 255: ", &book, 255, 0);
+    show_step(b"step 256: ", &book, 256, 0);
+    show_step(b"step 65536: ", &book, 65536, 0);
+    show_step(b"command 16: ", &book, 0, 16);
+    show_short(&book);
+    let mut out = [255u8; 72];
+    show_write(b"write: ", &book, &mut out, 72);
+    dump(&out);
+    show_write(b"\nwrite into 70: ", &book, &mut out, 70);
+    show_write(b"write into 69: ", &book, &mut out, 69);
+    show_choice(b"choose cheaper: ", &book, 0, 2, b"\x02", b"\x00\x02\x01");
+    show_choice(b"choose tie: ", &book, 0, 2, b"\x02\x00", b"\x02\x01");
+    show_choice(b"choose none: ", &book, 0, 2, b"\x07", b"\x10\x02");
+    show_choice(b"choose here: ", &book, 2, 2, b"\x00", b"");
+    tear(b"owner out of range: ", &mut book, 129, 65536);
+    tear(b"owner not in use: ", &mut book, 147, 5);
+    tear(b"target out of range: ", &mut book, 131, 16777217);
+    tear(b"target in another machine: ", &mut book, 131, 655361);
+    tear(b"start of another machine: ", &mut book, 2, 10);
+    tear(b"root held by its own node: ", &mut book, 148, 0);
+    tear(b"holder that holds nothing: ", &mut book, 3, 2);
+    tear(b"two roots: ", &mut book, 3, 65535);
+    tear(b"root with a holder: ", &mut book, 1, 11);
+    tear(b"root out of range: ", &mut book, 0, 64);
+    tear(b"transition of an unused node: ", &mut book, 185, 65541);
+    line(b"same book: ", same(&book, &before));
+    line(b"open ladder: ", open_ladder(&mut book, &mut sheet));
+    show_step(b"ladder 1 by 1: ", &book, 1, 1);
+    show_step(b"ladder 0 by 1: ", &book, 0, 1);
+}

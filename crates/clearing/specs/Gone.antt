@@ -1,0 +1,89 @@
+-- A tree and rows where the nodes, or the machines, that pass a test are not in use, and what a book's and a sheet's words are left with.
+use mathlib.Core.Path.{_≡_}
+use mathlib.Core.Bool.{Bool, false, cond, _&&_}
+use mathlib.Core.List.{List}
+use Prim.Native.Nat.{ℕ}
+use lib.Dec.{eqb, ltb}
+use lib.ListN.{length, getD}
+use Rattle.definitions.specs.Basics.{unless}
+use Rattle.definitions.specs.Limits.{bookLength, sheetLength}
+use Rattle.definitions.specs.Tree.{Tree}
+use Rattle.definitions.specs.Book.{treeOf}
+use Rattle.definitions.specs.Sheet.{Rows, rowsOf}
+use Rattle.book.specs.Fields.{Holds, withoutNode, withoutMachine}
+use Rattle.sheet.specs.Fields.{Leaves, withMark, withBlankMachine, withBlankNode}
+use Rattle.marking.specs.Stale.{withBlankNodes}
+
+-- a book and a sheet of the right lengths
+pub record Sized (ws rs : List ℕ) : Type 0 where
+  pub book : length ws ≡ bookLength
+  pub sheet : length rs ≡ sheetLength
+
+-- a book's words hold tree t, and a sheet's words are left with rows r
+pub record Left (rs ws′ rs′ : List ℕ) (t : Tree) (r : Rows) : Type 0 where
+  pub book : Holds ws′ t
+  pub sheet : Leaves rs rs′ r
+
+-- the tree where nothing is said of the nodes that pass the test
+abbrev pub withoutNodes : Tree → (ℕ → Bool) → Tree
+withoutNodes t gone =
+    record {
+      root = t .root;
+      owner = λ k. unless (gone k) (t .owner k);
+      below = λ k. unless (gone k) (t .below k);
+      start = t .start;
+      holder = t .holder;
+      transition = λ k x. unless (gone k) (t .transition k x);
+    }
+
+-- the tree where nothing is said of the machines that pass the test
+abbrev pub withoutMachines : Tree → (ℕ → Bool) → Tree
+withoutMachines t gone =
+    record {
+      root = t .root;
+      owner = t .owner;
+      below = t .below;
+      start = λ m. unless (gone m) (t .start m);
+      holder = λ m. unless (gone m) (t .holder m);
+      transition = t .transition;
+    }
+
+-- the rows where the machines that pass the test are blank and not marked
+abbrev pub withoutMachineRows : Rows → (ℕ → Bool) → Rows
+withoutMachineRows r gone =
+    record {
+      stale = λ m. cond (gone m) false (r .stale m);
+      exit = λ m x. unless (gone m) (r .exit m x);
+      last = λ m x. unless (gone m) (r .last m x);
+      cost = r .cost;
+      before = r .before;
+      by = r .by;
+    }
+
+-- the nodes, the machines that pass the test have fallen out of use
+abbrev pub NodesGone : List ℕ → List ℕ → List ℕ → List ℕ → (ℕ → Bool) → Type 0
+NodesGone book sheet book′ sheet′ gone =
+    Left sheet book′ sheet′ (withoutNodes (treeOf book) gone) (withBlankNodes (rowsOf sheet) gone)
+
+abbrev pub MachinesGone : List ℕ → List ℕ → List ℕ → List ℕ → (ℕ → Bool) → Type 0
+MachinesGone book sheet book′ sheet′ gone =
+    Left sheet book′ sheet′ (withoutMachines (treeOf book) gone) (withoutMachineRows (rowsOf sheet) gone)
+
+-- node n alone, machine m alone has fallen out of use
+abbrev pub NodeDropped : List ℕ → List ℕ → List ℕ → List ℕ → ℕ → Type 0
+NodeDropped book sheet book′ sheet′ n = Left sheet book′ sheet′ (withoutNode (treeOf book) n) (withBlankNode (rowsOf sheet) n)
+
+abbrev pub MachineDropped : List ℕ → List ℕ → List ℕ → List ℕ → ℕ → Type 0
+MachineDropped book sheet book′ sheet′ m =
+    Left sheet book′ sheet′ (withoutMachine (treeOf book) m) (withMark (withBlankMachine (rowsOf sheet) m) m false)
+
+-- whether a list has 1 at a number
+abbrev pub chosen : List ℕ → ℕ → Bool
+chosen list k = eqb (getD list k 0) 1
+
+-- a test that is passed by i alone, and by the numbers below i alone
+abbrev pub only : (ℕ → Bool) → ℕ → ℕ → Bool
+only gone i k = gone k && eqb k i
+
+abbrev pub upTo : (ℕ → Bool) → ℕ → ℕ → Bool
+upTo gone i k = gone k && ltb k i

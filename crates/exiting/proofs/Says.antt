@@ -1,0 +1,97 @@
+-- Exit's answer, refusal by refusal: what each way out of the call has to show. Assumes nothing.
+use mathlib.Core.Path.{_≡_, refl, subst}
+use mathlib.Core.Logic.{_⊎_, inl, inr}
+use mathlib.Core.Bool.{false}
+use mathlib.Core.Option.{some}
+use mathlib.Core.List.{List, [], _∷_}
+use Prim.Native.Nat.{ℕ, _<_}
+use lib.ListN.{length}
+use Rattle.definitions.specs.Limits.{machines, commands, bookLength, sheetLength, absent, blank}
+use Rattle.definitions.specs.Costs.{ExitCost}
+use Rattle.definitions.specs.Book.{word, treeOf, WellFormed}
+use Rattle.definitions.specs.Sheet.{costWord, rowsOf}
+use Rattle.definitions.specs.Truth.{TrueSheet}
+use Rattle.definitions.specs.Answer.{gives, refuses}
+use Rattle.definitions.specs.Calls.{WrongLength, ExitSays}
+use Rattle.definitions.proofs.Options.{none-some, true-false}
+use Rattle.definitions.proofs.Words.{present-word, no-start}
+use Rattle.sheet.specs.Fields.{Mark}
+use Rattle.truesheet.proofs.Reading.{rowsOf-read, cost-said, cost-unsaid}
+use Rattle.truesheet.proofs.Machines.{is-stale, is-filled}
+
+module _ (book sheet : List ℕ) (m x : ℕ) where
+  pub says-length : WrongLength book sheet → ExitSays book sheet m x (refuses 1)
+  says-length wrong = inl (wrong, refl)
+
+  -- lists of the right lengths have no wrong one
+  right-lengths : length book ≡ bookLength → length sheet ≡ sheetLength → WrongLength book sheet → ⊥
+  right-lengths l k (inl wrong) = wrong l
+  right-lengths l k (inr wrong) = wrong k
+
+  pub says-torn : length book ≡ bookLength → length sheet ≡ sheetLength → (WellFormed book → ⊥) → ExitSays book sheet m x (refuses 2)
+  says-torn l k torn = inr (right-lengths l k, inl (torn, refl))
+
+  pub says-untrue : WellFormed book → length sheet ≡ sheetLength
+      → (TrueSheet (treeOf book) sheet → ⊥) → ExitSays book sheet m x (refuses 3)
+  says-untrue w k untrue = inr (right-lengths (w .length) k, inr (λ torn. torn w, inl (untrue, refl)))
+
+  module _ (w : WellFormed book) (s : TrueSheet (treeOf book) sheet) where
+    -- none of the refusals 1, 2 and 3 holds
+    lent : {P Q R Rest : Type 0} → Rest
+        → (WrongLength book sheet × P)
+        ⊎ ((WrongLength book sheet → ⊥)
+        × (((WellFormed book → ⊥) × Q)
+        ⊎ (((WellFormed book → ⊥) → ⊥)
+        × (((TrueSheet (treeOf book) sheet → ⊥) × R) ⊎ (((TrueSheet (treeOf book) sheet → ⊥) → ⊥) × Rest)))))
+    lent rest = inr (right-lengths (w .length) (s .length), inr (λ torn. torn w, inr (λ untrue. untrue s, rest)))
+
+    pub says-range : ((m < machines) × (x < commands) → ⊥) → ExitSays book sheet m x (refuses 6)
+    says-range out = lent (inl (out, refl))
+
+    module _ (range : (m < machines) × (x < commands)) where
+      pub says-unused : {f : ℕ} → f ≡ word (treeOf book .start m) → f ≡ absent → ExitSays book sheet m x (refuses 7)
+      says-unused e at = lent (inr (λ out. out range, inl (no-start (treeOf book) (w .sound) m e at, refl)))
+
+      module _ {f : ℕ} (e : f ≡ word (treeOf book .start m)) (present : f ≡ absent → ⊥) where
+        -- the machine is in use
+        used : treeOf book .start m ≡ some f
+        used = present-word (treeOf book .start m) e present
+
+        pub says-stale : {b : ℕ} → Mark sheet m b → b ≡ 1 → ExitSays book sheet m x (refuses 13)
+        says-stale mark one =
+            lent (inr (λ out. out range, inr (λ unused. none-some unused used, inl (is-stale mark one, refl))))
+
+        module _ {b : ℕ} (mark : Mark sheet m b) (other : b ≡ 1 → ⊥) where
+          filled : rowsOf sheet .stale m ≡ false
+          filled = is-filled mark other
+
+          -- the exit cost that the sheet says is the least one
+          least : ExitCost (treeOf book) m x (rowsOf sheet .exit m x)
+          least = s .rows .filled m f used filled .exit x (range .1)
+
+          module _ {c : ℕ} (is : c ≡ costWord (rowsOf sheet .exit m x)) where
+            pub says-no-way : c ≡ blank → ExitSays book sheet m x (refuses 16)
+            says-no-way at =
+                lent
+                (inr (
+                  λ out. out range,
+                  inr (
+                    λ unused. none-some unused used,
+                    inr (
+                      λ stale. true-false stale filled,
+                      inl (subst (ExitCost (treeOf book) m x) (cost-unsaid (rowsOf sheet .exit m x) (rowsOf-read sheet .exit m x) is at) least, refl),
+                    ),
+                  ),
+                ))
+
+            pub says-costs : (c ≡ blank → ⊥) → ExitSays book sheet m x (gives (c ∷ []))
+            says-costs said =
+                let cost = subst (ExitCost (treeOf book) m x) (cost-said (rowsOf sheet .exit m x) is said) least in
+                lent
+                (inr (
+                  λ out. out range,
+                  inr (
+                    λ unused. none-some unused used,
+                    inr (λ stale. true-false stale filled, inr (λ never. never c (cost .0), (c, cost, refl))),
+                  ),
+                ))

@@ -1,0 +1,319 @@
+// The refusals 6 to 12 of a command on a well-formed book, in document 01's order ("Loading a stream"). Each test of a refusal is a
+// function of its own, and a command goes through its tests in turn.
+ghost use mathlib.Core.Path.{_≡_};
+ghost use mathlib.Core.Bool.{false, not, _||_};
+ghost use Prim.Native.Nat.{ℕ, _<_};
+ghost use Rattle.definitions.specs.Limits.{machines, nodes};
+ghost use Rattle.definitions.specs.Basics.{isSome, option, anyBelow};
+ghost use Rattle.definitions.specs.Tree.{Tree, usedMachine, usedNode, level};
+ghost use Rattle.definitions.specs.Book.{treeOf, WellFormed};
+ghost use Rattle.definitions.specs.Stream.{edit, begin, add, refine, remove, arrow, clear, start, crown};
+ghost use Rattle.definitions.specs.Edit.{badMachine, badNode, badCommand, isStart, apart, lowest, refusal};
+ghost use Rattle.stepping.specs.Meaning.{Used};
+ghost use Rattle.reading.specs.Meaning.{commandOf};
+use reading::Command;
+
+// The lowest level that may be; the root is at level 1.
+const LEVELS: u32 = 8;
+
+// Whether a machine, a node, a command is out of range.
+fn bad_machine(m: u32) -> bool
+    ensures { λ r. ⌜ r ≡ badMachine m ⌝ }
+{
+    !(m < book::MACHINES)
+}
+
+fn bad_node(n: u32) -> bool
+    ensures { λ r. ⌜ r ≡ badNode n ⌝ }
+{
+    !(n < book::NODES)
+}
+
+fn bad_command(x: u32) -> bool
+    ensures { λ r. ⌜ r ≡ badCommand x ⌝ }
+{
+    !(x < book::COMMANDS)
+}
+
+// Whether a number is out of range of those that begin, add and crown name; clear; refine; arrow.
+fn place_out_of_range(m: u32, n: u32) -> bool
+    ensures { λ r. ⌜ r ≡ (badMachine m || badNode n) ⌝ }
+{
+    bad_machine(m) || bad_node(n)
+}
+
+fn clear_out_of_range(n: u32, x: u32) -> bool
+    ensures { λ r. ⌜ r ≡ (badNode n || badCommand x) ⌝ }
+{
+    bad_node(n) || bad_command(x)
+}
+
+fn refine_out_of_range(n: u32, m: u32, s: u32) -> bool
+    ensures { λ r. ⌜ r ≡ (badNode n || badMachine m || badNode s) ⌝ }
+{
+    bad_node(n) || place_out_of_range(m, s)
+}
+
+fn arrow_out_of_range(n: u32, x: u32, v: u32) -> bool
+    ensures { λ r. ⌜ r ≡ (badNode n || badCommand x || badNode v) ⌝ }
+{
+    clear_out_of_range(n, x) || bad_node(v)
+}
+
+// Whether machine m is in use.
+fn used_machine(book: &[u32], m: u32) -> bool
+    requires { ⌜ WellFormed (now book) × (m < machines) ⌝ }
+    ensures { λ r. ⌜ r ≡ usedMachine (treeOf (now (book .entry))) m ⌝ }
+{
+    book::start(book, m) != book::ABSENT
+}
+
+// Whether node n is in use.
+fn used_node(book: &[u32], n: u32) -> bool
+    requires { ⌜ WellFormed (now book) × (n < nodes) ⌝ }
+    ensures { λ r. ⌜ r ≡ usedNode (treeOf (now (book .entry))) n ⌝ }
+{
+    book::owner(book, n) != book::ABSENT
+}
+
+// Whether a new machine or a new node is in use already.
+fn used_place(book: &[u32], m: u32, n: u32) -> bool
+    requires { ⌜ WellFormed (now book) × (m < machines) × (n < nodes) ⌝ }
+    ensures { λ r. ⌜ r ≡ (usedMachine (treeOf (now (book .entry))) m || usedNode (treeOf (now (book .entry))) n) ⌝ }
+{
+    used_machine(book, m) || used_node(book, n)
+}
+
+// Whether one of two nodes is not in use.
+fn unused_end(book: &[u32], n: u32, v: u32) -> bool
+    requires { ⌜ WellFormed (now book) × (n < nodes) × (v < nodes) ⌝ }
+    ensures { λ r. ⌜ r ≡ (not (usedNode (treeOf (now (book .entry))) n) || not (usedNode (treeOf (now (book .entry))) v)) ⌝ }
+{
+    !used_node(book, n) || !used_node(book, v)
+}
+
+// Whether node n holds a machine.
+fn refined(book: &[u32], n: u32) -> bool
+    requires { ⌜ WellFormed (now book) × (n < nodes) ⌝ }
+    ensures { λ r. ⌜ r ≡ isSome (treeOf (now (book .entry)) .below n) ⌝ }
+{
+    book::below(book, n) != book::ABSENT
+}
+
+// Whether node n is the start node of its machine.
+fn is_start(book: &[u32], n: u32) -> bool
+    requires { ⌜ WellFormed (now book) × Used (treeOf (now book)) n ⌝ }
+    ensures { λ r. ⌜ r ≡ isStart (treeOf (now (book .entry))) n ⌝ }
+{
+    book::start(book, book::owner(book, n)) == n
+}
+
+// Whether two nodes belong to different machines.
+fn apart(book: &[u32], n: u32, v: u32) -> bool
+    requires { ⌜ WellFormed (now book) × Used (treeOf (now book)) n × Used (treeOf (now book)) v ⌝ }
+    ensures { λ r. ⌜ r ≡ apart (treeOf (now (book .entry))) n v ⌝ }
+{
+    book::owner(book, v) != book::owner(book, n)
+}
+
+// The level of node n's machine.
+pub fn level(book: &[u32], n: u32) -> u32
+    requires { ⌜ WellFormed (now book) × Used (treeOf (now book)) n ⌝ }
+    ensures { λ r. ⌜ r ≡ level (treeOf (now (book .entry))) n ⌝ }
+{
+    let mut at = n;
+    let mut count: u32 = 1;
+    loop {
+        let h = book::holder(book, book::owner(book, at));
+        if h == book::ABSENT {
+            return count;
+        }
+        at = h;
+        count += 1;
+    }
+}
+
+// Whether node n stands at the lowest level.
+fn lowest(book: &[u32], n: u32) -> bool
+    requires { ⌜ WellFormed (now book) × Used (treeOf (now book)) n ⌝ }
+    ensures { λ r. ⌜ r ≡ lowest (treeOf (now (book .entry))) n ⌝ }
+{
+    level(book, n) == LEVELS
+}
+
+// Whether machine m is in use and stands at the lowest level.
+fn lowest_machine(book: &[u32], m: u32) -> bool
+    requires { ⌜ WellFormed (now book) × (m < machines) ⌝ }
+    ensures { λ r. ⌜ r ≡ option false (lowest (treeOf (now (book .entry)))) (treeOf (now (book .entry)) .start m) ⌝ }
+{
+    let s = book::start(book, m);
+    if s == book::ABSENT {
+        return false;
+    }
+    lowest(book, s)
+}
+
+// Whether any node stands at the lowest level. All nodes of a machine stand at one level, so the start nodes are looked at.
+fn any_lowest(book: &[u32]) -> bool
+    requires { ⌜ WellFormed (now book) ⌝ }
+    ensures { λ r. ⌜ r ≡ anyBelow nodes (lowest (treeOf (now (book .entry)))) ⌝ }
+{
+    let mut m: u32 = 0;
+    while m < book::MACHINES {
+        if lowest_machine(book, m) {
+            return true;
+        }
+        m += 1;
+    }
+    false
+}
+
+// The refusal of each command, 0 where it is taken: 6 (number out of range), 7 (machine or node not in use), 8 (new number in use),
+// 9 (already refined), 10 (a start node), 11 (target in another machine), 12 (over 8 levels).
+pub fn judge_begin(m: u32, n: u32) -> u32
+    ensures { λ r. ⌜ ((t : Tree) → r ≡ refusal t (edit (begin m n))) ⌝ }
+{
+    if place_out_of_range(m, n) {
+        return 6;
+    }
+    0
+}
+
+pub fn judge_add(book: &[u32], m: u32, n: u32) -> u32
+    requires { ⌜ WellFormed (now book) ⌝ }
+    ensures { λ r. ⌜ r ≡ refusal (treeOf (now (book .entry))) (edit (add m n)) ⌝ }
+{
+    if place_out_of_range(m, n) {
+        return 6;
+    }
+    if !used_machine(book, m) {
+        return 7;
+    }
+    if used_node(book, n) {
+        return 8;
+    }
+    0
+}
+
+pub fn judge_refine(book: &[u32], n: u32, m: u32, s: u32) -> u32
+    requires { ⌜ WellFormed (now book) ⌝ }
+    ensures { λ r. ⌜ r ≡ refusal (treeOf (now (book .entry))) (edit (refine n m s)) ⌝ }
+{
+    if refine_out_of_range(n, m, s) {
+        return 6;
+    }
+    if !used_node(book, n) {
+        return 7;
+    }
+    if used_place(book, m, s) {
+        return 8;
+    }
+    if refined(book, n) {
+        return 9;
+    }
+    if lowest(book, n) {
+        return 12;
+    }
+    0
+}
+
+pub fn judge_remove(book: &[u32], n: u32) -> u32
+    requires { ⌜ WellFormed (now book) ⌝ }
+    ensures { λ r. ⌜ r ≡ refusal (treeOf (now (book .entry))) (edit (remove n)) ⌝ }
+{
+    if bad_node(n) {
+        return 6;
+    }
+    if !used_node(book, n) {
+        return 7;
+    }
+    if is_start(book, n) {
+        return 10;
+    }
+    0
+}
+
+pub fn judge_arrow(book: &[u32], n: u32, x: u32, v: u32) -> u32
+    requires { ⌜ WellFormed (now book) ⌝ }
+    ensures { λ r. ⌜ ((c : ℕ) → r ≡ refusal (treeOf (now (book .entry))) (edit (arrow n x v c))) ⌝ }
+{
+    if arrow_out_of_range(n, x, v) {
+        return 6;
+    }
+    if unused_end(book, n, v) {
+        return 7;
+    }
+    if apart(book, n, v) {
+        return 11;
+    }
+    0
+}
+
+pub fn judge_clear(book: &[u32], n: u32, x: u32) -> u32
+    requires { ⌜ WellFormed (now book) ⌝ }
+    ensures { λ r. ⌜ r ≡ refusal (treeOf (now (book .entry))) (edit (clear n x)) ⌝ }
+{
+    if clear_out_of_range(n, x) {
+        return 6;
+    }
+    if !used_node(book, n) {
+        return 7;
+    }
+    0
+}
+
+pub fn judge_start(book: &[u32], n: u32) -> u32
+    requires { ⌜ WellFormed (now book) ⌝ }
+    ensures { λ r. ⌜ r ≡ refusal (treeOf (now (book .entry))) (edit (start n)) ⌝ }
+{
+    if bad_node(n) {
+        return 6;
+    }
+    if !used_node(book, n) {
+        return 7;
+    }
+    0
+}
+
+pub fn judge_crown(book: &[u32], m: u32, n: u32) -> u32
+    requires { ⌜ WellFormed (now book) ⌝ }
+    ensures { λ r. ⌜ r ≡ refusal (treeOf (now (book .entry))) (edit (crown m n)) ⌝ }
+{
+    if place_out_of_range(m, n) {
+        return 6;
+    }
+    if used_place(book, m, n) {
+        return 8;
+    }
+    if any_lowest(book) {
+        return 12;
+    }
+    0
+}
+
+// The number that a command is refused with on the book's tree; 0 where it is taken.
+pub fn refusal(book: &[u32], command: Command) -> u32
+    requires { ⌜ WellFormed (now book) ⌝ }
+    ensures { λ r. ⌜ r ≡ refusal (treeOf (now (book .entry))) (commandOf command) ⌝ }
+{
+    match command {
+        Command::Begin { machine, node } => judge_begin(machine, node),
+        Command::Add { machine, node } => judge_add(book, machine, node),
+        Command::Refine {
+            node,
+            machine,
+            first,
+        } => judge_refine(book, node, machine, first),
+        Command::Remove { node } => judge_remove(book, node),
+        Command::Arrow {
+            node,
+            command,
+            target,
+            cost: _,
+        } => judge_arrow(book, node, command, target),
+        Command::Clear { node, command } => judge_clear(book, node, command),
+        Command::Start { node } => judge_start(book, node),
+        Command::Crown { machine, node } => judge_crown(book, machine, node),
+        Command::Refresh => 0,
+    }
+}

@@ -1,0 +1,120 @@
+// Streams loaded, run: the mast book is loaded and refreshed, its exit costs are read, each refusal of a command is provoked, and sheets with one
+// false word are refused.
+use exiting::ExitAnswer;
+use libc::STDOUT_FILENO;
+
+fn number(n: u64) {
+    io::write_all(STDOUT_FILENO, b" ");
+    io::print_decimal(STDOUT_FILENO, n);
+}
+
+fn wide(n: usize) -> u64 {
+    n as u64
+}
+
+// Loads a stream and writes the bytes taken, the commands taken and the refusal.
+fn show_load(text: &[u8], book: &mut [u32; 4737], sheet: &mut [u32; 2880], stream: &[u8]) {
+    let answer = loading::load(book, sheet, stream);
+    io::write_all(STDOUT_FILENO, text);
+    number(wide(answer.bytes));
+    number(wide(answer.commands));
+    number(answer.number as u64);
+    io::write_all(STDOUT_FILENO, b"\n");
+}
+
+// Writes an exit cost, or `no` and the refusal.
+fn show_exit(text: &[u8], book: &[u32; 4737], sheet: &[u32; 2880], machine: u32, command: u32) {
+    io::write_all(STDOUT_FILENO, text);
+    match exiting::exit(book, sheet, machine, command) {
+        ExitAnswer::Costs(c) => number(c as u64),
+        ExitAnswer::Refused(k) => {
+            io::write_all(STDOUT_FILENO, b" no");
+            number(k as u64);
+        }
+    }
+    io::write_all(STDOUT_FILENO, b"\n");
+}
+
+// Puts a false word into the sheet, asks for an exit cost, and puts the old word back.
+fn falsify(text: &[u8], book: &[u32; 4737], sheet: &mut [u32; 2880], at: usize, word: u32) {
+    if at < 2880 {
+        let kept = sheet[at];
+        sheet[at] = word;
+        show_exit(text, book, sheet, 0, 0);
+        sheet[at] = kept;
+    }
+}
+
+fn open(book: &mut [u32; 4737], sheet: &mut [u32; 2880]) {
+    opening::open_fresh(book, sheet);
+}
+
+fn main() {
+    let mut book = [0u32; 4737];
+    let mut sheet = [0u32; 2880];
+    open(&mut book, &mut sheet);
+    show_load(
+        b"mast book:",
+        &mut book,
+        &mut sheet,
+        b"\x10\x00\x00\x00\x11\x00\x00\x01\x11\x00\x00\x02\x12\x00\x01\x01\x00\x0A\x11\x01\x00\x0B\x14\x00\x00\x00\x00\x01\x00\x05\x14\x00\x00\x02\x00\x02\x00\x14\x14\x00\x01\x01\x00\x02\x00\x03\x14\x00\x02\x00\x00\x00\x00\x07\x14\x00\x0A\x01\x00\x0A\x00\x01\x14\x00\x0A\x02\x00\x0B\x00\x04",
+    );
+    show_exit(b"exit while marked:", &book, &sheet, 1, 0);
+    show_load(b"refresh:", &mut book, &mut sheet, b"\x18");
+    show_exit(b"exit of 1 by 0:", &book, &sheet, 1, 0);
+    show_exit(b"exit of 1 by 1:", &book, &sheet, 1, 1);
+    show_exit(b"exit of 1 by 2:", &book, &sheet, 1, 2);
+    show_exit(b"exit of 0 by 0:", &book, &sheet, 0, 0);
+    show_exit(b"exit of 0 by 1:", &book, &sheet, 0, 1);
+    show_exit(b"exit of 0 by 2:", &book, &sheet, 0, 2);
+    show_load(
+        b"unknown opcode:",
+        &mut book,
+        &mut sheet,
+        b"\x19\x00\x00\x00\x02",
+    );
+    show_load(b"cut short:", &mut book, &mut sheet, b"\x14\x00\x00\x00");
+    show_load(b"node 256:", &mut book, &mut sheet, b"\x11\x00\x01\x00");
+    show_load(
+        b"machine not in use:",
+        &mut book,
+        &mut sheet,
+        b"\x11\x05\x00\x20",
+    );
+    show_load(b"node in use:", &mut book, &mut sheet, b"\x11\x00\x00\x0B");
+    show_load(
+        b"already refined:",
+        &mut book,
+        &mut sheet,
+        b"\x12\x00\x01\x02\x00\x14",
+    );
+    show_load(b"remove node 10:", &mut book, &mut sheet, b"\x13\x00\x0A");
+    show_load(
+        b"target elsewhere:",
+        &mut book,
+        &mut sheet,
+        b"\x14\x00\x00\x03\x00\x0A\x00\x01",
+    );
+    falsify(b"mark of two:", &book, &mut sheet, 0, 2);
+    falsify(b"exit cost one off:", &book, &mut sheet, 1, 6);
+    falsify(
+        b"last node that has a transition:",
+        &book,
+        &mut sheet,
+        17,
+        0,
+    );
+    falsify(b"cost one off:", &book, &mut sheet, 2115, 6);
+    falsify(b"name in another machine:", &book, &mut sheet, 2116, 10);
+    falsify(b"command out of range:", &book, &mut sheet, 2117, 16);
+    falsify(b"unused row not blank:", &book, &mut sheet, 2112 + 60, 0);
+    show_load(
+        b"two taken, one refused, one not reached:",
+        &mut book,
+        &mut sheet,
+        b"\x15\x00\x0A\x01\x16\x00\x02\x13\x00\x02\x18",
+    );
+    show_exit(b"exit after it:", &book, &sheet, 0, 1);
+    show_load(b"refresh again:", &mut book, &mut sheet, b"\x18");
+    show_exit(b"exit of 1 by 1 now:", &book, &sheet, 1, 1);
+}

@@ -1,0 +1,39 @@
+-- `opening::open_table` meets its contract: each length is tested before a word is written. Assumes nothing.
+use mathlib.Core.Logic.{inl, inr}
+use native.Mathlib.Omega.{arith}
+use denote.Ref.{now}
+use Rattle.opening.specs.Table.{rowTree}
+use Rattle.opening.proofs.Kept.{refused, opened}
+use borrow.Author.Needs.{needs}
+use Rattle.opening.proofs.open_table.Statement.{statement}
+use Rattle.opening.proofs.open_table.Tie as tie
+
+returns : tie.Need-returns
+returns c =
+    let a = c .before .before .before .before .args in
+    refused (rowTree (now (a .rows))) (now (a .book)) (now (a .sheet)) (inl (λ e. omega arith))
+
+returns-2 : tie.Need-returns-2
+returns-2 c =
+    let a = c .before .before .before .before .before .args in
+    refused (rowTree (now (a .rows))) (now (a .book)) (now (a .sheet)) (inr (λ e. omega arith))
+
+open-rows-requires : tie.Need-open-rows-requires
+open-rows-requires c κs = search needs
+
+same-length : tie.Need-same-length
+same-length c = search needs
+
+same-length-2 : tie.Need-same-length-2
+same-length-2 c = search needs
+
+returns-3 : tie.Need-returns-3
+returns-3 c =
+    let done = c .before .before .before .before .open-rows in
+    let a = c .before .before .before .before .before .before .before .before .before .before .before .before .args in
+    opened (rowTree (now (a .rows))) (now (a .book)) (now (a .sheet)) (done .last .0) (done .last .1 .0) (omega arith) (omega arith)
+    (done .ensures .0) (done .ensures .1)
+
+pub open-table-spec : {M : Type 1} → statement M
+open-table-spec =
+    tie.close (tie.spec returns returns-2 open-rows-requires same-length same-length-2 returns-3)
