@@ -1,0 +1,4 @@
+pub mod Opening
+pub mod Landing
+pub mod Tabling
+pub mod Searched
