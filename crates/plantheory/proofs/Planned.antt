@@ -50,7 +50,7 @@ module _ {t : Tree} (s : Sound t) (r : Rows) (rows : TrueRows t r) (fresh : (m :
       search .named n c (λ same. none-some (search .start-before) (subst (λ (v : ℕ). before v ≡ some u) same e)) reach
 
   -- every reached node is a position
-  reached-position : (n c : ℕ) → distance n ≡ some c → Position t opened n
+  pub reached-position : (n c : ℕ) → distance n ≡ some c → Position t opened n
   reached-position n c reach =
       let (k, short, way) = search .chain n c reach in
       along-names before (λ v. (d : ℕ) → distance v ≡ some d → Position t opened v)

@@ -1,0 +1,6 @@
+pub mod Names
+pub mod Traceable
+pub mod Tracing
+pub mod Opening
+pub mod Writing
+pub mod Short
