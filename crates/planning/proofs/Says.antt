@@ -1,0 +1,94 @@
+-- Plan's answer, refusal by refusal: what each way out of the call has to show. Assumes nothing.
+use mathlib.Core.Path.{_≡_, refl}
+use mathlib.Core.Logic.{inl, inr}
+use mathlib.Core.Bool.{true}
+use mathlib.Core.Option.{none}
+use mathlib.Core.List.{List, [], _∷_, _++_}
+use Prim.Native.Nat.{ℕ, _-_, _≤_, _<_}
+use native.Mathlib.Omega.{arith}
+use lib.ListN.{length, drop}
+use Rattle.definitions.specs.Limits.{bookLength, sheetLength}
+use Rattle.definitions.specs.Tree.{Tree, states}
+use Rattle.definitions.specs.Costs.{LeastCost}
+use Rattle.definitions.specs.Book.{treeOf, WellFormed}
+use Rattle.definitions.specs.Sheet.{rowsOf}
+use Rattle.definitions.specs.Truth.{TrueSheet}
+use Rattle.definitions.specs.Answer.{Answer, gives, refuses, Refusal, refuse, InOrder}
+use Rattle.definitions.specs.Calls.{WrongLength, sheetRefusals, planRefusals, Plan, PlanSays}
+use Rattle.stepping.specs.Meaning.{StatesJudged}
+use Rattle.stepping.proofs.States.{BothStates, states-met, states-past}
+use Rattle.planning.specs.Meaning.{Answers}
+
+-- ---- refusals 1, 2 and 3, whatever comes after them
+
+module _ (book sheet : List ℕ) (rest : List Refusal) (Refused : ℕ → Type 0) (Done : Type 0) where
+  pub lent-length : WrongLength book sheet → Refused 1 → InOrder (sheetRefusals book sheet rest) Refused Done
+  lent-length wrong p = inl (wrong, p)
+
+  right-lengths : length book ≡ bookLength → length sheet ≡ sheetLength → WrongLength book sheet → ⊥
+  right-lengths l k (inl wrong) = wrong l
+  right-lengths l k (inr wrong) = wrong k
+
+  pub lent-torn : length book ≡ bookLength → length sheet ≡ sheetLength → (WellFormed book → ⊥) → Refused 2
+      → InOrder (sheetRefusals book sheet rest) Refused Done
+  lent-torn l k torn p = inr (right-lengths l k, inl (torn, p))
+
+  pub lent-untrue : WellFormed book → length sheet ≡ sheetLength → (TrueSheet (treeOf book) sheet → ⊥) → Refused 3
+      → InOrder (sheetRefusals book sheet rest) Refused Done
+  lent-untrue w k untrue p = inr (right-lengths (w .length) k, inr (λ torn. torn w, inl (untrue, p)))
+
+  pub lent-past : WellFormed book → TrueSheet (treeOf book) sheet → InOrder rest Refused Done
+      → InOrder (sheetRefusals book sheet rest) Refused Done
+  lent-past w s i = inr (right-lengths (w .length) (s .length), inr (λ torn. torn w, inr (λ untrue. untrue s, i)))
+
+-- ---- Plan
+
+module _ (book sheet : List ℕ) (a b : ℕ) (buffer : List ℕ) where
+  abbrev t : Tree
+  t = treeOf book
+
+  -- what a refusal says, and what is said where none holds
+  abbrev Refused : Answer → List ℕ → ℕ → Type 0
+  Refused answer buffer′ k = (answer ≡ refuses k) × (buffer′ ≡ buffer)
+
+  abbrev Done : Answer → List ℕ → Type 0
+  Done answer buffer′ =
+      (cost : ℕ) × (list : List ℕ) × Plan t a b cost list × (answer ≡ gives (cost ∷ length list ∷ [])) × (buffer′ ≡ list ++ drop (length list) buffer)
+
+  abbrev rest : List Refusal
+  rest = planRefusals t (rowsOf sheet) a b (length buffer)
+
+  pub says-length : WrongLength book sheet → PlanSays book sheet a b buffer (refuses 1) buffer
+  says-length wrong = lent-length book sheet rest (Refused (refuses 1) buffer) (Done (refuses 1) buffer) wrong (refl, refl)
+
+  pub says-torn : length book ≡ bookLength → length sheet ≡ sheetLength → (WellFormed book → ⊥) → PlanSays book sheet a b buffer (refuses 2) buffer
+  says-torn l k torn = lent-torn book sheet rest (Refused (refuses 2) buffer) (Done (refuses 2) buffer) l k torn (refl, refl)
+
+  pub says-untrue : WellFormed book → length sheet ≡ sheetLength → (TrueSheet t sheet → ⊥) → PlanSays book sheet a b buffer (refuses 3) buffer
+  says-untrue w k untrue = lent-untrue book sheet rest (Refused (refuses 3) buffer) (Done (refuses 3) buffer) w k untrue (refl, refl)
+
+  module _ (w : WellFormed book) (s : TrueSheet t sheet) where
+    pub says-stale : (m : ℕ) × (rowsOf sheet .stale m ≡ true) → PlanSays book sheet a b buffer (refuses 13) buffer
+    says-stale stale = lent-past book sheet rest (Refused (refuses 13) buffer) (Done (refuses 13) buffer) w s (inl (stale, (refl, refl)))
+
+    module _ (fresh : (m : ℕ) × (rowsOf sheet .stale m ≡ true) → ⊥) where
+      -- the refusals after those of the two states
+      abbrev last : List Refusal
+      last = refuse 15 (length buffer < states t - 1) ∷ refuse 16 (LeastCost t a b none) ∷ []
+
+      pub says-states : (r : ℕ) → StatesJudged t a b r → (r ≡ 0 → ⊥) → PlanSays book sheet a b buffer (refuses r) buffer
+      says-states r judged nonzero =
+          lent-past book sheet rest (Refused (refuses r) buffer) (Done (refuses r) buffer) w s
+          (inr (fresh, states-met t a b r judged nonzero last (Refused (refuses r) buffer) (Done (refuses r) buffer) (refl, refl)))
+
+      module _ (both : BothStates t a b) where
+        pub says-short : length buffer < states t - 1 → PlanSays book sheet a b buffer (refuses 15) buffer
+        says-short short =
+            lent-past book sheet rest (Refused (refuses 15) buffer) (Done (refuses 15) buffer) w s
+            (inr (fresh, states-past both last (Refused (refuses 15) buffer) (Done (refuses 15) buffer) (inl (short, (refl, refl)))))
+
+        pub says-answers : states t - 1 ≤ length buffer → {answer : Answer} {buffer′ : List ℕ} → Answers t a b buffer answer buffer′
+            → PlanSays book sheet a b buffer answer buffer′
+        says-answers enough {answer} {buffer′} answers =
+            lent-past book sheet rest (Refused answer buffer′) (Done answer buffer′) w s
+            (inr (fresh, states-past both last (Refused answer buffer′) (Done answer buffer′) (inr (λ short. omega (arith, short, enough), answers))))

@@ -1,0 +1,195 @@
+-- Demand 3: after an opening, any Loads and a refresh the lists hold the expected station, and Plan's answer is a good plan or a true "no way".
+-- Assumes nothing.
+use mathlib.Core.Path.{_≡_, refl, _∙_, ap}
+use mathlib.Core.Logic.{_⊎_, inl, inr, ⊎-elim}
+use mathlib.Core.Bool.{true, not}
+use mathlib.Core.Option.{none, some}
+use mathlib.Core.List.{List, [], _∷_, _++_}
+use Prim.Native.Nat.{ℕ, _<_}
+use native.Mathlib.Omega.{arith}
+use lib.ListN.{length, take, drop}
+use lib.Seq.{take-at}
+use borrow.Author.Tests.{not-true}
+use Rattle.definitions.specs.Basics.{All, isSome}
+use Rattle.definitions.specs.Limits.{nodes, planBuffer}
+use Rattle.definitions.specs.Tree.{Tree, Sound, isState}
+use Rattle.definitions.specs.Book.{encode, treeOf, WellFormed}
+use Rattle.definitions.specs.Sheet.{Rows, rowsOf}
+use Rattle.definitions.specs.Truth.{TrueSheet}
+use Rattle.definitions.specs.Stream.{refresh, operandLength, decode}
+use Rattle.definitions.specs.Edit.{refusal}
+use Rattle.definitions.specs.Load.{load, stopped, after, expected}
+use Rattle.definitions.specs.Open.{Opening, openTree}
+use Rattle.definitions.specs.Answer.{Answer, refuses, InOrder}
+use Rattle.definitions.specs.Calls.{WrongLength, OpenSays, LoadAnswer, LoadDone, LoadSays, planRefusals, PlanSays}
+use Rattle.definitions.specs.Demand.{Bytes, Loads, refreshAlone, GoodPlan, Demand3}
+use Rattle.definitions.proofs.Options.{none-some, true-false, isSome-true, isSome-false}
+use Rattle.definitions.proofs.Words.{treeOf-encode, encode-well-formed}
+use Rattle.definitions.proofs.Streams.{next-takes, next-nothing, load-taken, load-end, read-whole}
+use Rattle.definitions.proofs.Kept.{load-sound, expected-sound}
+use Rattle.definitions.proofs.Opened.{open-sound}
+use Rattle.definitions.proofs.Simple.{and-true, states-bound}
+use Rattle.rows.proofs.Open.{open-true}
+use Rattle.rows.proofs.Loaded.{commands-true}
+use Rattle.wholerun.specs.WholeRun.{Holds, GivesPlan, AnswersFor, Demanded, Answered}
+use Rattle.wholerun.proofs.TrueWords.{true-words, true-marks}
+
+-- both lists hold this tree, which is sound
+pub record Kept (t : Tree) (book sheet : List ℕ) : Type 0 where
+  pub written : book ≡ encode t
+  pub sound : Sound t
+  pub filled : TrueSheet t sheet
+
+-- ---- an opening
+
+pub opened : (o : Opening) {lent lent-sheet book sheet : List ℕ} → OpenSays (openTree o) lent lent-sheet 0 book sheet
+    → Kept (openTree o) book sheet
+opened o (inl refused) = absurd (omega (arith, refused .1 .0))
+opened o (inr (right, done)) =
+    record {
+      written = done .1;
+      sound = open-sound o;
+      filled = rw (done .2) (true-words (open-sound o) (open-true (open-sound o)));
+    }
+
+-- ---- a Load
+
+-- a refresh alone is one command
+load-refresh : (t : Tree) → load t refreshAlone ≡ after refresh 1 (stopped 0 t)
+unfolding operandLength decode refusal
+load-refresh t =
+    let one = next-takes t refreshAlone (read-whole 0x18 [] {k = 0} refl (omega arith)) refl in
+    load-taken t refreshAlone one ∙ ap (after refresh 1) (load-end t [] (next-nothing t))
+
+module _ {t : Tree} {book sheet : List ℕ} (kept : Kept t book sheet) where
+  -- the lists are a well-formed book of this tree
+  formed : WellFormed book
+  formed = rw (kept .written) (encode-well-formed t (kept .sound))
+
+  held : treeOf book ≡ t
+  held = ap treeOf (kept .written) ∙ treeOf-encode t (kept .sound)
+
+  -- and a true sheet, so no call refuses them with 1, 2 or 3
+  unrefused : {P Q R Rest : Type 0}
+      → (WrongLength book sheet × P)
+      ⊎ ((WrongLength book sheet → ⊥)
+      × (((WellFormed book → ⊥) × Q)
+      ⊎ (((WellFormed book → ⊥) → ⊥)
+      × (((TrueSheet (treeOf book) sheet → ⊥) × R) ⊎ (((TrueSheet (treeOf book) sheet → ⊥) → ⊥) × Rest)))))
+      → Rest
+  unrefused (inl refused) = absurd (⊎-elim (λ wrong. wrong (formed .length)) (λ wrong. wrong (kept .filled .length)) (refused .0))
+  unrefused (inr (long, inl refused)) = absurd (refused .0 formed)
+  unrefused (inr (long, inr (well, inl refused))) = absurd (refused .0 (rw held (kept .filled)))
+  unrefused (inr (long, inr (well, inr (right, rest)))) = rest
+
+  -- Load does its commands
+  does : (stream : List ℕ) {book′ sheet′ : List ℕ} {answer : LoadAnswer} → LoadSays book sheet stream answer book′ sheet′
+      → LoadDone t (rowsOf sheet) (load t stream) answer book′ sheet′
+  does stream says = rw held at (unrefused says)
+
+  -- it leaves lists that hold the tree after the stream
+  pub loaded : (stream : List ℕ) → Bytes stream → {book′ sheet′ : List ℕ} {answer : LoadAnswer}
+      → LoadSays book sheet stream answer book′ sheet′ → Kept (load t stream .tree) book′ sheet′
+  loaded stream bytes says =
+      let done = does stream says in
+      let sound = load-sound (kept .sound) stream bytes in
+      record {
+        written = done .book;
+        sound = sound;
+        filled = rw (done .sheet) (true-words sound (commands-true (kept .sound) (kept .filled .rows) stream bytes (done .done)));
+      }
+
+  -- a refresh alone leaves the same tree, and nothing stale
+  pub refreshed : {book′ sheet′ : List ℕ} {answer : LoadAnswer} → LoadSays book sheet refreshAlone answer book′ sheet′ → Holds t book′ sheet′
+  refreshed says =
+      let done = rw (load-refresh t) at (does refreshAlone says) in
+      let (mid, fills, same) = done .done in
+      let rows = rw (← same) at (fills .filled) in
+      record {
+        written = done .book;
+        filled = rw (done .sheet) (true-words (kept .sound) rows);
+        fresh = λ m. ap (λ (ws : List ℕ). rowsOf ws .stale m) (done .sheet) ∙ true-marks (kept .sound) rows m ∙ ap (λ (r : Rows). r .stale m) same ∙ fills .fresh m;
+      }
+
+-- ---- all Loads, each on what the one before left, with a refresh alone as the last
+
+loads-refreshed : {t : Tree} {book sheet book′ sheet′ : List ℕ} (streams : List (List ℕ)) → Kept t book sheet → All Bytes streams
+    → Loads book sheet (streams ++ (refreshAlone ∷ [])) book′ sheet′ → Holds (expected t streams) book′ sheet′
+unfolding expected
+loads-refreshed [] kept bytes (Loads.then says Loads.done) = refreshed kept says
+loads-refreshed (stream ∷ streams) kept bytes (Loads.then says rest) =
+    loads-refreshed streams (loaded kept stream (bytes .0) says) (bytes .1) rest
+
+-- from a holding just opened
+pub prepared : (o : Opening) (streams : List (List ℕ)) → All Bytes streams → {lent lent-sheet opened-book opened-sheet book sheet : List ℕ}
+    → OpenSays (openTree o) lent lent-sheet 0 opened-book opened-sheet
+    → Loads opened-book opened-sheet (streams ++ (refreshAlone ∷ [])) book sheet → Holds (expected (openTree o) streams) book sheet
+prepared o streams bytes opening calls = loads-refreshed streams (opened o opening) bytes calls
+
+-- ---- the Plan
+
+-- on such lists, with 255 bytes, Plan refuses 6, 7, 14 or 16, or gives a plan
+answers : {t : Tree} → Sound t → {book sheet : List ℕ} → Holds t book sheet → (a b : ℕ) {buffer : List ℕ} → length buffer ≡ planBuffer
+    → {answer : Answer} {buffer′ : List ℕ} → PlanSays book sheet a b buffer answer buffer′ → AnswersFor t a b buffer answer buffer′
+answers {t} sound {book} {sheet} holds a b {buffer} room {answer} {buffer′} says = go (rw (held kept) at (unrefused kept says))
+  where
+    kept : Kept t book sheet
+    kept = record { written = holds .written; sound = sound; filled = holds .filled }
+
+    go : InOrder (planRefusals t (rowsOf sheet) a b (length buffer)) (λ k. (answer ≡ refuses k) × (buffer′ ≡ buffer)) (GivesPlan t a b buffer answer buffer′)
+        → AnswersFor t a b buffer answer buffer′
+    go (inl stale) = absurd (true-false (stale .0 .1) (holds .fresh (stale .0 .0)))
+    go (inr (fresh, inl out)) = inl out
+    go (inr (fresh, inr (range, inl unused))) = inr (range, inl unused)
+    go (inr (fresh, inr (range, inr (used, inl refined)))) = inr (range, inr (used, inl refined))
+    go (inr (fresh, inr (range, inr (used, inr (plain, inl short))))) = absurd (omega (arith, short .0, room, states-bound t))
+    go (inr (fresh, inr (range, inr (used, inr (plain, inr (long, rest)))))) = inr (range, inr (used, inr (plain, rest)))
+
+-- a state is a node in use, and plain
+state-parts : {t : Tree} → Sound t → (n : ℕ) → isState t n ≡ true → (n < nodes) × ((m : ℕ) × (t .owner n ≡ some m)) × (t .below n ≡ none)
+state-parts {t} sound n e =
+    let (used, plain) = and-true (isSome (t .owner n)) (not (isSome (t .below n))) e in
+    let (m, own) = isSome-true (t .owner n) used in
+    (sound .node-range n m own, (m, own), isSome-false (t .below n) (not-true (isSome (t .below n)) plain))
+
+-- a plan at the front of a buffer is a good one
+good : {t : Tree} {a b : ℕ} {buffer : List ℕ} {answer : Answer} {buffer′ : List ℕ} → GivesPlan t a b buffer answer buffer′
+    → GoodPlan t a b answer buffer′
+good {t} {a} {b} {buffer} {answer} {buffer′} (cost, list, plan, stated, written) =
+    let front : take (length list) buffer′ ≡ list = rw written (take-at list (drop (length list) buffer) (length list) refl) in
+    record {
+      cost = cost;
+      count = length list;
+      stated = stated;
+      fits = ap length front;
+      moves = rw front (plan .moves);
+      simple = rw front (plan .simple);
+      least = λ xs c moves. plan .least .1 c (xs, moves);
+    }
+
+-- for states none of 6, 7 and 14 holds
+demanded : {t : Tree} → Sound t → (a b : ℕ) {buffer : List ℕ} {answer : Answer} {buffer′ : List ℕ}
+    → AnswersFor t a b buffer answer buffer′ → Demanded t a b answer buffer′
+demanded sound a b (inl refused) at-a at-b = absurd (refused .0 (state-parts sound a at-a .0, state-parts sound b at-b .0))
+demanded sound a b (inr (range, inl refused)) at-a at-b =
+    absurd
+    (⊎-elim (λ unused. none-some unused (state-parts sound a at-a .1 .1)) (λ unused. none-some unused (state-parts sound b at-b .1 .1))
+    (refused .0))
+demanded sound a b (inr (range, inr (used, inl refused))) at-a at-b =
+    absurd (refused .0 (state-parts sound a at-a .2, state-parts sound b at-b .2))
+demanded sound a b (inr (range, inr (used, inr (plain, inl refused)))) at-a at-b =
+    inr (record { stated = refused .1 .0; stuck = λ xs c moves. refused .0 c (xs, moves) })
+demanded sound a b (inr (range, inr (used, inr (plain, inr (way, done))))) at-a at-b = inl (good done)
+
+-- so the answer is what demand 3 asks
+pub answered : {t : Tree} → Sound t → {book sheet : List ℕ} → Holds t book sheet → (a b : ℕ) {buffer : List ℕ} → length buffer ≡ planBuffer
+    → {answer : Answer} {buffer′ : List ℕ} → PlanSays book sheet a b buffer answer buffer′ → Answered t a b buffer answer book sheet buffer′
+answered sound holds a b room says =
+    let given = answers sound holds a b room says in
+    record { holds = holds; answers = given; demanded = demanded sound a b given }
+
+-- ---- demand 3
+
+pub demand-3 : Demand3
+demand-3 o streams bytes lent lent-sheet opened-book opened-sheet book sheet opening calls a b at-a at-b buffer room answer buffer′ says =
+    answered (expected-sound (open-sound o) streams bytes) (prepared o streams bytes opening calls) a b room says .demanded at-a at-b

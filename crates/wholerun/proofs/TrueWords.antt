@@ -1,0 +1,247 @@
+-- True rows are written as a true sheet: what they say for the commands that there are fits its words. Assumes nothing.
+use mathlib.Core.Path.{_≡_, refl, sym, _∙_, ap, subst}
+use mathlib.Core.Logic.{_⊎_, inl, inr, ⊎-elim}
+use mathlib.Core.Bool.{Bool, true, false, cond}
+use mathlib.Core.Option.{Option, none, some}
+use Prim.Native.Nat.{ℕ, zero, suc, _+_, _*_, _-_, _≤_, _<_}
+use native.Mathlib.Omega.{arith}
+use lib.Dec.{ltb}
+use borrow.Author.Tests.{ltb-true, ltb-false}
+use Rattle.definitions.specs.Basics.{iterate}
+use Rattle.definitions.specs.Limits.{commands, nodes, largestCost, largestPlanCost, absent, blank}
+use Rattle.definitions.specs.Tree.{Tree, Sound}
+use Rattle.definitions.specs.Costs.{ExitCost}
+use Rattle.definitions.specs.Book.{word, under}
+use Rattle.definitions.specs.Sheet.{Rows, costWord, machineRowLength, machineRow, nodeRow, rowsOf, encodeRows}
+use Rattle.definitions.specs.Truth.{BlankMachine, BlankNode, TrueRows, TrueSheet}
+use Rattle.definitions.proofs.Options.{bind-some, none-some, some-same, true-false, decided, present, equal-or-not}
+use Rattle.definitions.proofs.Path.{parent-below}
+use Rattle.definitions.proofs.Simple.{exit-largest}
+use Rattle.definitions.proofs.LocalTruth.{filled-below, true-local, local-true}
+use Rattle.definitions.proofs.Words.{encodeRows-length, encodeRows-is, machine-row-word, node-row-word, under-in, InRange, rowsOf-encodeRows}
+use Rattle.definitions.proofs.Tests.{rows-sheet}
+use Rattle.rows.proofs.Locality.{SameRow, same-row}
+use Rattle.refreshing.proofs.Bounds.{move-bound}
+
+-- rows as far as they speak of the commands that there are
+abbrev commanded : Rows → Rows
+commanded r =
+    record {
+      stale = r .stale;
+      exit = λ m x. under commands x (r .exit m x);
+      last = λ m x. under commands x (r .last m x);
+      cost = r .cost;
+      before = r .before;
+      by = r .by;
+    }
+
+-- what is there under a limit is under it
+under-some : {A : Type 0} (limit i : ℕ) (o : Option A) {a : A} → under limit i o ≡ some a → (i < limit) × (o ≡ some a)
+unfolding under
+under-some limit i o {a} e = go (ltb i limit) refl
+  where
+    go : (b : Bool) → ltb i limit ≡ b → (i < limit) × (o ≡ some a)
+    go true small = (ltb-true i limit small, rw small at e)
+    go false large = absurd (none-some refl (rw large at e))
+
+-- they have the same words
+commanded-machine : (r : Rows) (m k : ℕ) → k < machineRowLength → machineRow r m k ≡ machineRow (commanded r) m k
+unfolding machineRow
+commanded-machine r m zero hk = refl
+commanded-machine r m (suc i) hk = go (ltb i commands) refl
+  where
+    go : (b : Bool) → ltb i commands ≡ b
+        → cond b (costWord (r .exit m i)) (word (r .last m (i - commands)))
+        ≡ cond b (costWord (under commands i (r .exit m i))) (word (under commands (i - commands) (r .last m (i - commands))))
+    go true small = ap costWord (sym (under-in commands i (r .exit m i) (ltb-true i commands small)))
+    go false large =
+        let past : commands ≤ i = ltb-false i commands large in
+        ap word (sym (under-in commands (i - commands) (r .last m (i - commands)) (omega arith)))
+
+commanded-node : (r : Rows) (n k : ℕ) → nodeRow r n k ≡ nodeRow (commanded r) n k
+unfolding nodeRow
+commanded-node r n zero = refl
+commanded-node r n (suc zero) = refl
+commanded-node r n (suc (suc k)) = refl
+
+commanded-words : (r : Rows) → encodeRows r ≡ encodeRows (commanded r)
+commanded-words r =
+    encodeRows-is (encodeRows r) (commanded r) (encodeRows-length r)
+    (λ m k hm hk. machine-row-word r m k hm hk ∙ commanded-machine r m k hk)
+    (λ n k hn hk. node-row-word r n k hn hk ∙ commanded-node r n k)
+
+-- the row of a node is blank, or the node belongs to a machine in use whose row is filled
+data NodeRow (t : Tree) (r : Rows) (n : ℕ) : Type 0 where
+  blank-row : BlankNode r n → NodeRow t r n
+  filled-row : {m f : ℕ} → t .owner n ≡ some m → t .start m ≡ some f → r .stale m ≡ false → NodeRow t r n
+
+-- a node names nothing before it, or a node of its machine and a command
+data NodeNames (t : Tree) (r : Rows) (n : ℕ) : Type 0 where
+  names-nothing : r .before n ≡ none → r .by n ≡ none → NodeNames t r n
+  names-move : {m v x : ℕ} → t .owner n ≡ some m → t .owner v ≡ some m → x < commands → r .before n ≡ some v → r .by n ≡ some x
+      → NodeNames t r n
+
+module _ {t : Tree} (s : Sound t) {r : Rows} (rows : TrueRows t r) where
+  -- ---- and are true of the same tree
+
+  commanded-row : (m : ℕ) → SameRow t t r (commanded r) m
+  commanded-row m =
+      record {
+        moves = record {
+          machine = record {
+            start = refl;
+            owned = λ n own. own;
+            owner = λ n own. own;
+            below = λ n own. refl;
+            counting = λ n x own range. refl;
+            leaving = λ n b own down. refl;
+          };
+          below = λ n b x own down range. under-in commands x (r .exit b x) range;
+        };
+        exit = λ x range. under-in commands x (r .exit m x) range;
+        last = λ x range. under-in commands x (r .last m x) range;
+        cost = λ n own. refl;
+        before = λ n own. refl;
+        by = λ n own. refl;
+      }
+
+  -- a blank row is one still
+  commanded-blank : (m : ℕ) → BlankMachine r m → BlankMachine (commanded r) m
+  commanded-blank m empty =
+      record {
+        exit = λ x range. under-in commands x (r .exit m x) range ∙ empty .exit x range;
+        last = λ x range. under-in commands x (r .last m x) range ∙ empty .last x range;
+      }
+
+  commanded-true : TrueRows t (commanded r)
+  commanded-true =
+      let local = true-local s r rows in
+      local-true s (commanded r) (record {
+        blanks = record {
+          unused-stale = rows .blanks .unused-stale;
+          unused-machine = λ m unused. commanded-blank m (rows .blanks .unused-machine m unused);
+          unused-node = λ n unused. node n (rows .blanks .unused-node n unused);
+          stale-machine = λ m stale. commanded-blank m (rows .blanks .stale-machine m stale);
+          stale-node = λ n m own stale. node n (rows .blanks .stale-node n m own stale);
+        };
+        stale-above = rows .stale-above;
+        relaxed = λ m f used full. same-row (commanded-row m) (s .start-owned m f used) s .0 (local .relaxed m f used full);
+        attained = λ m f used full. same-row (commanded-row m) (s .start-owned m f used) s .1 (local .attained m f used full);
+      })
+    where
+      node : (n : ℕ) → BlankNode r n → BlankNode (commanded r) n
+      node n empty = record { cost = empty .cost; before = empty .before; by = empty .by }
+
+  -- ---- what they say is in range
+
+  -- the row of a machine is blank, or the machine is in use and its row is filled and true
+  machine-row : (m : ℕ) → BlankMachine r m ⊎ ((f : ℕ) × (t .start m ≡ some f) × (r .stale m ≡ false))
+  machine-row m =
+      ⊎-elim (λ unused. inl (rows .blanks .unused-machine m unused))
+      (λ used. ⊎-elim (λ stale. inl (rows .blanks .stale-machine m stale)) (λ full. inr (used .0, used .1, full)) (decided (r .stale m)))
+      (present (t .start m))
+
+  -- so is the row of a node, or it belongs to such a machine
+  node-row : (n : ℕ) → NodeRow t r n
+  node-row n =
+      ⊎-elim (λ unused. blank-row (rows .blanks .unused-node n unused))
+      (λ used.
+      let (m, own) = used in
+      let (f, first) = s .owner-used n m own in
+      ⊎-elim (λ stale. blank-row (rows .blanks .stale-node n m own stale)) (λ full. filled-row own first full) (decided (r .stale m)))
+      (present (t .owner n))
+
+  -- a node reached over so many names costs at most so many moves
+  chain-bound : (m f : ℕ) → t .start m ≡ some f → r .stale m ≡ false → (k n c : ℕ) → t .owner n ≡ some m → r .cost n ≡ some c
+      → iterate (r .before) k n ≡ some f → c ≤ k * (largestPlanCost + largestCost)
+  unfolding iterate
+  chain-bound m f used full zero n c own cost e =
+      omega (arith, some-same cost (ap (r .cost) (some-same refl e) ∙ rows .filled m f used full .start-cost))
+  chain-bound m f used full (suc k) n c own cost e =
+      ⊎-elim (λ start. omega (arith, some-same cost (ap (r .cost) start ∙ rows .filled m f used full .start-cost)))
+      (λ other.
+      let name = rows .filled m f used full .named n c own other cost in
+      let (v, named, rest) = bind-some (r .before n) (iterate (r .before) k) e in
+      let on : iterate (r .before) k (name .node) ≡ some f = rw (some-same named (name .before)) at rest in
+      omega (
+        arith,
+        chain-bound m f used full k (name .node) (name .node-cost) (name .owned) (name .reached) on,
+        move-bound s r rows (name .node)
+            (λ b down. filled-below t r (rows .stale-above) b m (parent-below s (name .owned) down) full) (name .command) (name .moves),
+        name .exact,
+      ))
+      (equal-or-not n f)
+
+  -- a node names nothing before it, or a node of its machine and a command
+  node-names : (n : ℕ) → NodeNames t r n
+  node-names n = go (node-row n)
+    where
+      go : NodeRow t r n → NodeNames t r n
+      go (blank-row empty) = names-nothing (empty .before) (empty .by)
+      go (filled-row {m} {f} own used full) =
+          let row = rows .filled m f used full in
+          ⊎-elim (λ far. let empty = row .unreached n own far in names-nothing (empty .before) (empty .by))
+          (λ near.
+          ⊎-elim (λ first. names-nothing (ap (r .before) first ∙ row .start-before) (ap (r .by) first ∙ row .start-by))
+          (λ other.
+          let name = row .named n (near .0) own other (near .1) in
+          names-move own (name .owned) (name .command-range) (name .before) (name .by))
+          (equal-or-not n f))
+          (present (r .cost n))
+
+  -- the cost of a node
+  cost-range : (n c : ℕ) → r .cost n ≡ some c → NodeRow t r n → (n < nodes) × (c < blank)
+  cost-range n c e (blank-row empty) = absurd (none-some (empty .cost) e)
+  cost-range n c e (filled-row {m} {f} own used full) =
+      let (k, short, way) = rows .filled m f used full .chain n c own e in
+      (s .node-range n m own, omega (arith, chain-bound m f used full k n c own e way))
+
+  -- and what it names
+  before-range : (n k : ℕ) → r .before n ≡ some k → NodeNames t r n → (n < nodes) × (k < absent)
+  before-range n k e (names-nothing before by) = absurd (none-some before e)
+  before-range n k e (names-move {m} {v} own from known before by) =
+      (s .node-range n m own, omega (arith, some-same e before, s .node-range v m from))
+
+  by-range : (n k : ℕ) → r .by n ≡ some k → NodeNames t r n → (n < nodes) × (k < absent)
+  by-range n k e (names-nothing before by) = absurd (none-some by e)
+  by-range n k e (names-move {m} own from known before by) = (s .node-range n m own, omega (arith, some-same e by))
+
+  commanded-range : InRange (commanded r)
+  commanded-range =
+      record {
+        stale = λ m stale.
+            ⊎-elim (λ unused. absurd (true-false stale (rows .blanks .unused-stale m unused)))
+            (λ used. s .machine-range m (used .0) (used .1)) (present (t .start m));
+        exit = λ m x c e.
+            let (range, there) = under-some commands x (r .exit m x) e in
+            ⊎-elim (λ empty. absurd (none-some (empty .exit x range) there))
+            (λ row.
+            let (f, used, full) = row in
+            let small = exit-largest s m x c (subst (ExitCost t m x) there (rows .filled m f used full .exit x range)) in
+            (s .machine-range m f used, range, omega arith))
+            (machine-row m);
+        last = λ m x n e.
+            let (range, there) = under-some commands x (r .last m x) e in
+            ⊎-elim (λ empty. absurd (none-some (empty .last x range) there))
+            (λ row.
+            let (f, used, full) = row in
+            let filled = rows .filled m f used full in
+            ⊎-elim (λ shut. absurd (none-some (filled .no-exit x range shut) there))
+            (λ exit.
+            let end = filled .ended x (exit .0) range (exit .1) in
+            (s .machine-range m f used, range, omega (arith, some-same there (end .last), s .node-range (end .node) m (end .owned))))
+            (present (r .exit m x)))
+            (machine-row m);
+        cost = λ n c e. cost-range n c e (node-row n);
+        before = λ n k e. before-range n k e (node-names n);
+        by = λ n k e. by-range n k e (node-names n);
+      }
+
+  -- the words of true rows are a true sheet
+  pub true-words : TrueSheet t (encodeRows r)
+  true-words = rw (commanded-words r) (rows-sheet t (commanded r) commanded-range commanded-true)
+
+  -- in which the same machines are stale
+  pub true-marks : (m : ℕ) → rowsOf (encodeRows r) .stale m ≡ r .stale m
+  true-marks m =
+      ap (λ (q : Rows). q .stale m) (ap rowsOf (commanded-words r) ∙ rowsOf-encodeRows (commanded r) commanded-range)

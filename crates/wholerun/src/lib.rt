@@ -1,0 +1,114 @@
+// The whole of demand 3 as one call: a holding is opened, loaded stream by stream, refreshed, and asked for a plan.
+ghost use mathlib.Core.Path.{_≡_};
+ghost use mathlib.Core.List.{[], _∷_};
+ghost use lib.ListN.{length};
+ghost use Rattle.definitions.specs.Limits.{bookLength, sheetLength};
+ghost use Rattle.definitions.specs.Load.{expected};
+ghost use Rattle.definitions.specs.Open.{openTree};
+ghost use Rattle.definitions.specs.Calls.{OpenSays};
+ghost use Rattle.definitions.specs.Demand.{Loads, refreshAlone};
+ghost use Rattle.wellformed.specs.Decides.{Decides};
+ghost use Rattle.planning.specs.Meaning.{answerOf};
+ghost use Rattle.wholerun.specs.Ends.{Rising, streamsOf};
+ghost use Rattle.wholerun.specs.Meaning.{openingOf};
+ghost use Rattle.wholerun.specs.WholeRun.{Holds, RunSays};
+use planning::PlanAnswer;
+
+// The two ways to open a holding.
+pub enum Opening {
+    Fresh,
+    Ladder,
+}
+
+// The bytes that Plan is lent.
+pub const BUFFER: usize = 255;
+
+// Whether the ends of streams rise from 0 to the number of their bytes.
+fn well_ended(ends: &[usize], total: usize) -> bool
+    ensures { λ r. ⌜ Decides r (Rising 0 (now (ends .entry)) total) ⌝ }
+{
+    let mut last = 0usize;
+    let mut i = 0usize;
+    while i < ends.len() {
+        let end = ends[i];
+        if end < last {
+            return false;
+        }
+        last = end;
+        i += 1;
+    }
+    last == total
+}
+
+// Opens a holding.
+fn open(opening: Opening, book: &mut [u32], sheet: &mut [u32]) -> u32
+    ensures { λ r. ⌜ OpenSays (openTree (openingOf opening)) (now (book .entry)) (now (sheet .entry)) r (now (book .exit)) (now (sheet .exit)) ⌝ }
+{
+    match opening {
+        Opening::Fresh => opening::open_fresh(book, sheet),
+        Opening::Ladder => opening::open_ladder(book, sheet),
+    }
+}
+
+// Does a Load for each stream, each on what the one before left.
+fn load_all(book: &mut [u32], sheet: &mut [u32], bytes: &[u8], ends: &[usize])
+    requires { ⌜ Rising 0 (now ends) (length (now bytes)) ⌝ }
+    ensures { λ _. ⌜ Loads (now (book .entry)) (now (sheet .entry)) (streamsOf 0 (now (ends .entry)) (now (bytes .entry))) (now (book .exit)) (now (sheet .exit)) ⌝ }
+{
+    let mut from = 0usize;
+    let mut i = 0usize;
+    while i < ends.len() {
+        let to = ends[i];
+        loading::load(book, sheet, &bytes[from..to]);
+        from = to;
+        i += 1;
+    }
+}
+
+// Does a Load of a refresh alone.
+fn refresh(book: &mut [u32], sheet: &mut [u32])
+    ensures { λ _. ⌜ Loads (now (book .entry)) (now (sheet .entry)) (refreshAlone ∷ []) (now (book .exit)) (now (sheet .exit)) ⌝ }
+{
+    loading::load(book, sheet, &[0x18]);
+}
+
+// Opens a holding, loads it stream by stream and refreshes it.
+fn prepare(opening: Opening, book: &mut [u32], sheet: &mut [u32], bytes: &[u8], ends: &[usize])
+    requires { ⌜ (length (now book) ≡ bookLength) × (length (now sheet) ≡ sheetLength) × Rising 0 (now ends) (length (now bytes)) ⌝ }
+    ensures { λ _. ⌜ Holds (expected (openTree (openingOf opening)) (streamsOf 0 (now (ends .entry)) (now (bytes .entry)))) (now (book .exit)) (now (sheet .exit)) ⌝ }
+{
+    open(opening, book, sheet);
+    load_all(book, sheet, bytes, ends);
+    refresh(book, sheet);
+}
+
+// The whole run: opens a holding, does a Load for each of the streams that the ends cut the bytes into and one for a refresh alone, and asks
+// Plan from a to b, with 255 bytes. It refuses 1 (a wrong length) and 19 (malformed ends), writing nothing; else it answers as Plan does.
+pub fn whole_run(
+    opening: Opening,
+    book: &mut [u32],
+    sheet: &mut [u32],
+    bytes: &[u8],
+    ends: &[usize],
+    a: u32,
+    b: u32,
+    buffer: &mut [u8],
+) -> PlanAnswer
+    ensures { λ r. ⌜ RunSays (openingOf opening) (now (book .entry)) (now (sheet .entry)) (now (bytes .entry)) (now (ends .entry)) a b (now (buffer .entry))
+        (answerOf r) (now (book .exit)) (now (sheet .exit)) (now (buffer .exit)) ⌝ }
+{
+    if book.len() != book::BOOK {
+        return PlanAnswer::Refused(1);
+    }
+    if sheet.len() != sheet::SHEET {
+        return PlanAnswer::Refused(1);
+    }
+    if buffer.len() != BUFFER {
+        return PlanAnswer::Refused(1);
+    }
+    if !well_ended(ends, bytes.len()) {
+        return PlanAnswer::Refused(19);
+    }
+    prepare(opening, book, sheet, bytes, ends);
+    planning::plan(book, sheet, a, b, buffer)
+}
