@@ -19,7 +19,7 @@ use Rattle.definitions.specs.Choose.{Used, usedPart, usedOf, Choice, first, sec
 use Rattle.definitions.proofs.Options.{bind-some, none-some, some-same}
 use Rattle.stepping.specs.Meaning.{StatesJudged}
 use Rattle.stepping.proofs.States.{BothStates, states-met, states-past}
-use Rattle.choosing.specs.Meaning.{choiceOf, numberOf, chosenBy}
+use Rattle.choosing.specs.Meaning.{choiceOf, numberOf, Numbered, chosenBy}
 use Rattle.choosing.specs.declared.Chosen.{Chosen}
 
 -- the refusal after those of the two states, what a refusal says, and what is said where none holds
@@ -124,18 +124,24 @@ part-short t b s (x ∷ xs) {u} e = go (λ s₁ v. part-short t b s₁ xs {u = v
         let (v, part, same) = bind-some (usedPart t b (m .node) xs) _ e in
         omega (arith, shorter (m .node) v part, counted same)
 
--- the used part of a list is a front part of it
-used-short : (t : Tree) (a b : ℕ) (xs : List ℕ) {u : Used} → usedOf t a b xs ≡ some u → u .count ≤ length xs
-used-short t a b xs e = omega (arith, part-short t b a (take longestList xs) e, length-take longestList xs)
+-- so many commands are a front part of a list, no longer than what Choose looks at
+abbrev pub Front : List ℕ → ℕ → Type 0
+Front xs k = (k ≤ length xs) × (k ≤ longestList)
 
--- a choice takes no more commands than its list has
+-- the used part of a list is such a front part
+used-short : (t : Tree) (a b : ℕ) (xs : List ℕ) {u : Used} → usedOf t a b xs ≡ some u → Front xs (u .count)
+used-short t a b xs e =
+    let short = part-short t b a (take longestList xs) e in
+    (omega (arith, short, length-take longestList xs), omega (arith, short, length-take longestList xs))
+
+-- and so is what a choice takes of its list
 abbrev pub Within : List ℕ → List ℕ → Choice → Type 0
-Within one two (first k) = k ≤ length one
-Within one two (second k) = k ≤ length two
+Within one two (first k) = Front one k
+Within one two (second k) = Front two k
 
 -- the cheaper of two used parts is within its list where both are, and so is what is chosen with the number 0
-cheaper-within : (one two : List ℕ) (o p : Option Used) → ((u : Used) → o ≡ some u → u .count ≤ length one)
-    → ((v : Used) → p ≡ some v → v .count ≤ length two) → {choice : Choice} → cheaper o p ≡ some choice → Within one two choice
+cheaper-within : (one two : List ℕ) (o p : Option Used) → ((u : Used) → o ≡ some u → Front one (u .count))
+    → ((v : Used) → p ≡ some v → Front two (v .count)) → {choice : Choice} → cheaper o p ≡ some choice → Within one two choice
 cheaper-within one two none none f g e = absurd (none-some refl e)
 cheaper-within one two (some u) none f g e = subst (Within one two) (some-same refl e) (f u refl)
 cheaper-within one two none (some v) f g e = subst (Within one two) (some-same refl e) (g v refl)
@@ -150,3 +156,13 @@ says-within book a b one two says =
     let t = treeOf book in
     cheaper-within one two (usedOf t a b one) (usedOf t a b two) (λ u e. used-short t a b one e) (λ v e. used-short t a b two e)
     (says-done book a b one two says)
+
+-- ---- the answer for a choice has its number
+
+pub chosen-numbered : (o : Option Choice) {r : Chosen} → r ≡ chosenBy o → Numbered r
+chosen-numbered o e = subst Numbered (sym e) (go o)
+  where
+    go : (o : Option Choice) → Numbered (chosenBy o)
+    go none = λ z. omega arith
+    go (some (first k)) = tt
+    go (some (second k)) = tt

@@ -1,4 +1,5 @@
 -- What the answers of this crate's functions mean.
+use mathlib.Core.Path.{_≡_}
 use mathlib.Core.Option.{Option, none, some}
 use Prim.Native.Nat.{ℕ}
 use Rattle.definitions.specs.Choose.{Used, Choice, first, second}
@@ -22,6 +23,12 @@ abbrev pub numberOf : Chosen → ℕ
 numberOf (First k) = 0
 numberOf (Second k) = 0
 numberOf (Refused n) = n
+
+-- an answer that refuses has a number other than 0
+abbrev pub Numbered : Chosen → Type 0
+Numbered (First k) = Unit
+Numbered (Second k) = Unit
+Numbered (Refused n) = n ≡ 0 → ⊥
 
 -- the answer for a choice; where there is none, 18
 abbrev pub chosenBy : Option Choice → Chosen

@@ -6,7 +6,7 @@ ghost use Rattle.definitions.specs.Limits.{longestList};
 ghost use Rattle.definitions.specs.Book.{treeOf, WellFormed};
 ghost use Rattle.definitions.specs.Choose.{usedOf, cheaper, ChoiceSays, ChooseSays};
 ghost use Rattle.stepping.specs.Meaning.{Used};
-ghost use Rattle.choosing.specs.Meaning.{usedIn, chosenBy, choiceOf, numberOf};
+ghost use Rattle.choosing.specs.Meaning.{usedIn, chosenBy, choiceOf, numberOf, Numbered};
 use stepping::Stepped;
 
 // How many commands of a list are used up to its first arrival, and their cost; or that it ends before.
@@ -100,7 +100,7 @@ fn cheaper(first: Part, second: Part) -> Chosen
 // Which front part of which list Choose gives back. It refuses 1 (a wrong length), 2 (book not well formed), 6 (number out of range),
 // 7 (node not in use), 14 (node not plain), 18 (neither arrives).
 pub fn choice(book: &[u32], a: u32, b: u32, first: &[u8], second: &[u8]) -> Chosen
-    ensures { λ r. ⌜ ChoiceSays (now (book .entry)) a b (now (first .entry)) (now (second .entry)) (choiceOf r) (numberOf r) ⌝ }
+    ensures { λ r. ⌜ ChoiceSays (now (book .entry)) a b (now (first .entry)) (now (second .entry)) (choiceOf r) (numberOf r) × Numbered r ⌝ }
 {
     if book.len() != book::BOOK {
         return Chosen::Refused(1);

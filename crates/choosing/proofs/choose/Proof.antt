@@ -22,7 +22,7 @@ says-first : (c : tie.After-n)
 says-first c =
     let k = c .before .before in
     let a = k .before .before .before .before .args in
-    says-same (now (a .book)) (a .a) (a .b) (now (a .first)) (now (a .second)) (c .n .given .1) (k .choice .ensures)
+    says-same (now (a .book)) (a .a) (a .b) (now (a .first)) (now (a .second)) (c .n .given .1) (k .choice .ensures .0)
 
 says-second : (c : tie.After-n2)
     → let a = c .before .before .before .before .before .before .args in
@@ -30,7 +30,7 @@ says-second : (c : tie.After-n2)
 says-second c =
     let k = c .before .before in
     let a = k .before .before .before .before .args in
-    says-same (now (a .book)) (a .a) (a .b) (now (a .first)) (now (a .second)) (c .n2 .given .1) (k .choice .ensures)
+    says-same (now (a .book)) (a .a) (a .b) (now (a .first)) (now (a .second)) (c .n2 .given .1) (k .choice .ensures .0)
 
 says-refused : (c : tie.After-k)
     → let a = c .before .before .before .before .before .before .args in
@@ -38,7 +38,7 @@ says-refused : (c : tie.After-k)
 says-refused c =
     let k = c .before .before in
     let a = k .before .before .before .before .args in
-    says-same (now (a .book)) (a .a) (a .b) (now (a .first)) (now (a .second)) (c .k .given .1) (k .choice .ensures)
+    says-same (now (a .book)) (a .a) (a .b) (now (a .first)) (now (a .second)) (c .k .given .1) (k .choice .ensures .0)
 
 slice-aggregate-result : tie.Need-slice-aggregate-result
 slice-aggregate-result c =
@@ -46,7 +46,7 @@ slice-aggregate-result c =
     let a = n .before .before .before .before .before .before .args in
     sym
     (length-take-le (n .n .given .0 .0) (now (a .first))
-    (says-within (now (a .book)) (a .a) (a .b) (now (a .first)) (now (a .second)) (says-first n)))
+    (says-within (now (a .book)) (a .a) (a .b) (now (a .first)) (now (a .second)) (says-first n) .0))
 
 enum-known-n-2 : tie.Need-enum-known-n-2
 enum-known-n-2 c = search needs
@@ -57,7 +57,7 @@ slice-aggregate-result-2 c =
     let a = n .before .before .before .before .before .before .args in
     sym
     (length-take-le (n .n2 .given .0 .0) (now (a .second))
-    (says-within (now (a .book)) (a .a) (a .b) (now (a .first)) (now (a .second)) (says-second n)))
+    (says-within (now (a .book)) (a .a) (a .b) (now (a .first)) (now (a .second)) (says-second n) .0))
 
 enum-known-k : tie.Need-enum-known-k
 enum-known-k c = search needs

@@ -1,0 +1,63 @@
+-- The public calls as C sees them: the number is returned, and what an answer gives is stored through pointers.
+use mathlib.Core.Path.{_≡_}
+use mathlib.Core.Bool.{cond}
+use mathlib.Core.List.{List}
+use Prim.Native.Nat.{ℕ}
+use lib.Dec.{eqb}
+use lib.ListN.{getD}
+use Rattle.definitions.specs.Answer.{Answer}
+use Rattle.definitions.specs.Calls.{LoadSays, ExitSays, StepSays, PlanSays}
+use Rattle.definitions.specs.Write.{WriteSays}
+use Rattle.definitions.specs.Choose.{Choice, first, second, ChoiceSays}
+
+-- what a word holds after the call that held `old` before it: the i-th value that the answer gives; a refusal gives none
+abbrev pub outOf : Answer → ℕ → ℕ → ℕ
+outOf answer i old = getD (answer .values) i old
+
+-- Exit, Step, Plan and Write: the returned number and the words, by the answer that document 01 gives
+pub record ExitReturns (book sheet : List ℕ) (m x cost number cost′ : ℕ) : Type 0 where
+  pub answer : Answer
+  pub says : ExitSays book sheet m x answer
+  pub returned : number ≡ answer .number
+  pub cost-word : cost′ ≡ outOf answer 0 cost
+
+pub record StepReturns (book : List ℕ) (s x next cost number next′ cost′ : ℕ) : Type 0 where
+  pub answer : Answer
+  pub says : StepSays book s x answer
+  pub returned : number ≡ answer .number
+  pub next-word : next′ ≡ outOf answer 0 next
+  pub cost-word : cost′ ≡ outOf answer 1 cost
+
+pub record PlanReturns (book sheet : List ℕ) (a b : ℕ) (buffer : List ℕ) (cost count number : ℕ) (buffer′ : List ℕ) (cost′ count′ : ℕ) : Type 0 where
+  pub answer : Answer
+  pub says : PlanSays book sheet a b buffer answer buffer′
+  pub returned : number ≡ answer .number
+  pub cost-word : cost′ ≡ outOf answer 0 cost
+  pub count-word : count′ ≡ outOf answer 1 count
+
+pub record WriteReturns (book out : List ℕ) (size number : ℕ) (out′ : List ℕ) (size′ : ℕ) : Type 0 where
+  pub answer : Answer
+  pub says : WriteSays book out answer out′
+  pub returned : number ≡ answer .number
+  pub size-word : size′ ≡ outOf answer 0 size
+
+-- Load: the number and both counts, which are always stored
+abbrev pub LoadReturns : List ℕ → List ℕ → List ℕ → ℕ → ℕ → ℕ → List ℕ → List ℕ → Type 0
+LoadReturns book sheet stream number bytes commands book′ sheet′ =
+    LoadSays book sheet stream (record { bytes = bytes; commands = commands; number = number }) book′ sheet′
+
+-- which list a choice is of, 0 the first and 1 the second, and how many of its commands it has
+abbrev pub listOf : Choice → ℕ
+listOf (first k) = 0
+listOf (second k) = 1
+
+abbrev pub countOf : Choice → ℕ
+countOf (first k) = k
+countOf (second k) = k
+
+-- Choose: the number, and which part of which list; a refusal stores neither
+pub record ChooseReturns (book : List ℕ) (a b : ℕ) (one two : List ℕ) (list used number list′ used′ : ℕ) : Type 0 where
+  pub choice : Choice
+  pub says : ChoiceSays book a b one two choice number
+  pub list-word : list′ ≡ cond (eqb number 0) (listOf choice) list
+  pub used-word : used′ ≡ cond (eqb number 0) (countOf choice) used

@@ -1,0 +1,155 @@
+// The public calls for C. Each returns a refusal's number, 0 for none; what a call gives is stored through pointers, and a refusal stores
+// nothing (Load's two counts are always stored). A list passes as a pointer and its length.
+ghost use Rattle.definitions.specs.Open.{freshTree, ladderTree};
+ghost use Rattle.definitions.specs.Calls.{OpenSays};
+ghost use Rattle.himm.specs.Exports.{LoadReturns, ExitReturns, StepReturns, PlanReturns, WriteReturns, ChooseReturns};
+use choosing::Chosen;
+use exiting::ExitAnswer;
+use planning::PlanAnswer;
+use stepping::StepAnswer;
+use writing::WriteAnswer;
+
+// Open fresh: root 0 with start node 0. Refuses 1.
+#[no_mangle]
+pub extern "C" fn himm_open_fresh(book: &mut [u32], sheet: &mut [u32]) -> u32
+    ensures { λ r. ⌜ OpenSays freshTree (now (book .entry)) (now (sheet .entry)) r (now (book .exit)) (now (sheet .exit)) ⌝ }
+{
+    opening::open_fresh(book, sheet)
+}
+
+// Open ladder: the 63 machines of the ladder. Refuses 1.
+#[no_mangle]
+pub extern "C" fn himm_open_ladder(book: &mut [u32], sheet: &mut [u32]) -> u32
+    ensures { λ r. ⌜ OpenSays ladderTree (now (book .entry)) (now (sheet .entry)) r (now (book .exit)) (now (sheet .exit)) ⌝ }
+{
+    opening::open_ladder(book, sheet)
+}
+
+// Load: does the commands of a stream up to its end or the first that is refused. Refuses 1, 2, 3, then at a command 4 to 12.
+#[no_mangle]
+pub extern "C" fn himm_load(
+    book: &mut [u32],
+    sheet: &mut [u32],
+    stream: &[u8],
+    bytes: &mut u64,
+    commands: &mut u64,
+) -> u32
+    ensures { λ r. ⌜ LoadReturns (now (book .entry)) (now (sheet .entry)) (now (stream .entry)) r
+        (now (bytes .exit)) (now (commands .exit)) (now (book .exit)) (now (sheet .exit)) ⌝ }
+{
+    let loaded = loading::load(book, sheet, stream);
+    *bytes = loaded.bytes as u64;
+    *commands = loaded.commands as u64;
+    loaded.number
+}
+
+// Exit: the exit cost of a machine for a command. Refuses 1, 2, 3, 6, 7, 13, 16.
+#[no_mangle]
+pub extern "C" fn himm_exit(
+    book: &[u32],
+    sheet: &[u32],
+    machine: u32,
+    command: u32,
+    cost: &mut u32,
+) -> u32
+    ensures { λ r. ⌜ ExitReturns (now (book .entry)) (now (sheet .entry)) machine command (now (cost .entry)) r (now (cost .exit)) ⌝ }
+{
+    match exiting::exit(book, sheet, machine, command) {
+        ExitAnswer::Costs(c) => {
+            *cost = c;
+            0
+        }
+        ExitAnswer::Refused(k) => k,
+    }
+}
+
+// Step: the state that a command leads to, and its cost. Refuses 1, 2, 6, 7, 14, 17.
+#[no_mangle]
+pub extern "C" fn himm_step(
+    book: &[u32],
+    state: u32,
+    command: u32,
+    next: &mut u32,
+    cost: &mut u32,
+) -> u32
+    ensures { λ r. ⌜ StepReturns (now (book .entry)) state command (now (next .entry)) (now (cost .entry)) r
+        (now (next .exit)) (now (cost .exit)) ⌝ }
+{
+    match stepping::step(book, state, command) {
+        StepAnswer::Moved { state, cost: c } => {
+            *next = state;
+            *cost = c;
+            0
+        }
+        StepAnswer::Refused(k) => k,
+    }
+}
+
+// Plan: a cheapest list of commands from a state to another at the front of the buffer, its cost and how many commands it has. Refuses 1, 2, 3,
+// 13, 6, 7, 14, 15, 16.
+#[no_mangle]
+pub extern "C" fn himm_plan(
+    book: &[u32],
+    sheet: &[u32],
+    from: u32,
+    to: u32,
+    plan: &mut [u8],
+    cost: &mut u32,
+    count: &mut u32,
+) -> u32
+    ensures { λ r. ⌜ PlanReturns (now (book .entry)) (now (sheet .entry)) from to (now (plan .entry)) (now (cost .entry)) (now (count .entry)) r
+        (now (plan .exit)) (now (cost .exit)) (now (count .exit)) ⌝ }
+{
+    match planning::plan(book, sheet, from, to, plan) {
+        PlanAnswer::Planned { cost: c, count: n } => {
+            *cost = c;
+            *count = n;
+            0
+        }
+        PlanAnswer::Refused(k) => k,
+    }
+}
+
+// Write: the stream of a book at the front of out, and its length. Refuses 1, 2, 15.
+#[no_mangle]
+pub extern "C" fn himm_write(book: &[u32], out: &mut [u8], length: &mut u32) -> u32
+    ensures { λ r. ⌜ WriteReturns (now (book .entry)) (now (out .entry)) (now (length .entry)) r (now (out .exit)) (now (length .exit)) ⌝ }
+{
+    match writing::write(book, out) {
+        WriteAnswer::Written(n) => {
+            *length = n;
+            0
+        }
+        WriteAnswer::Refused(k) => k,
+    }
+}
+
+// Choose: which of two lists is the cheaper one from a state to another (0 the first, 1 the second), and how many of its commands are
+// used. Refuses 1, 2, 6, 7, 14, 18.
+#[no_mangle]
+pub extern "C" fn himm_choose(
+    book: &[u32],
+    from: u32,
+    to: u32,
+    first: &[u8],
+    second: &[u8],
+    which: &mut u32,
+    used: &mut u32,
+) -> u32
+    ensures { λ r. ⌜ ChooseReturns (now (book .entry)) from to (now (first .entry)) (now (second .entry)) (now (which .entry)) (now (used .entry)) r
+        (now (which .exit)) (now (used .exit)) ⌝ }
+{
+    match choosing::choice(book, from, to, first, second) {
+        Chosen::First(n) => {
+            *which = 0;
+            *used = n as u32;
+            0
+        }
+        Chosen::Second(n) => {
+            *which = 1;
+            *used = n as u32;
+            0
+        }
+        Chosen::Refused(k) => k,
+    }
+}
