@@ -31,6 +31,30 @@ fn same(a: &[u32; 4737], b: &[u32; 4737]) -> u32 {
     1
 }
 
+// Copies a book by its stream into the ladder's holding, and writes the stream's length, or the refusal, and whether the words are the same.
+fn show_copy(text: &[u8], book: &[u32; 4737], out: &mut [u8; 72]) {
+    let mut other = [0u32; 4737];
+    let mut sheet = [0u32; 2880];
+    open_ladder(&mut other, &mut sheet);
+    pair(
+        text,
+        copy(book, out, &mut other, &mut sheet),
+        same(book, &other),
+    );
+}
+
+fn copy(
+    book: &[u32; 4737],
+    out: &mut [u8; 72],
+    other: &mut [u32; 4737],
+    sheet: &mut [u32; 2880],
+) -> u32 {
+    match copying::copy(book, out, other, sheet) {
+        WriteAnswer::Written(n) => n,
+        WriteAnswer::Refused(k) => k,
+    }
+}
+
 // The mast book's words, over those of a book that was opened fresh.
 fn store_mast(book: &mut [u32; 4737]) {
     book[3] = 1;
@@ -158,6 +182,7 @@ fn main() {
     dump(&out);
     show_write(b"\nwrite into 70: ", &book, &mut out, 70);
     show_write(b"write into 69: ", &book, &mut out, 69);
+    show_copy(b"copied into the ladder: ", &book, &mut out);
     show_choice(b"choose cheaper: ", &book, 0, 2, b"\x02", b"\x00\x02\x01");
     show_choice(b"choose tie: ", &book, 0, 2, b"\x02\x00", b"\x02\x01");
     show_choice(b"choose none: ", &book, 0, 2, b"\x07", b"\x10\x02");

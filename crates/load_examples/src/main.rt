@@ -49,6 +49,49 @@ fn open(book: &mut [u32; 4737], sheet: &mut [u32; 2880]) {
     opening::open_fresh(book, sheet);
 }
 
+// A name in another machine whose cost and transition give the right sum, and a circle of names that costs nothing.
+fn false_names(book: &mut [u32; 4737], sheet: &mut [u32; 2880]) {
+    show_load(
+        b"two machines alike:",
+        book,
+        sheet,
+        b"\x10\x00\x00\x00\x11\x00\x00\x01\x11\x00\x00\x02\x12\x00\x02\x01\x00\x0A\x11\x01\x00\x0B\x14\x00\x00\x00\x00\x01\x00\x05\x14\x00\x0A\x00\x00\x0B\x00\x05\x18",
+    );
+    show_exit(b"its exit:", book, sheet, 0, 1);
+    falsify(
+        b"name in another machine, right sum:",
+        book,
+        sheet,
+        2116,
+        10,
+    );
+    show_load(
+        b"transitions that cost nothing:",
+        book,
+        sheet,
+        b"\x10\x00\x00\x00\x11\x00\x00\x01\x11\x00\x00\x02\x14\x00\x00\x00\x00\x01\x00\x00\x14\x00\x01\x00\x00\x02\x00\x00\x14\x00\x02\x00\x00\x01\x00\x00\x18",
+    );
+    show_exit(b"its exit:", book, sheet, 0, 1);
+    falsify(b"circle of names at no cost:", book, sheet, 2116, 2);
+}
+
+// Eight levels, then a ninth below them and a ninth above them.
+fn nine_levels(book: &mut [u32; 4737], sheet: &mut [u32; 2880]) {
+    show_load(
+        b"level 8:",
+        book,
+        sheet,
+        b"\x10\x00\x00\x00\x12\x00\x00\x01\x00\x01\x12\x00\x01\x02\x00\x02\x12\x00\x02\x03\x00\x03\x12\x00\x03\x04\x00\x04\x12\x00\x04\x05\x00\x05\x12\x00\x05\x06\x00\x06\x12\x00\x06\x07\x00\x07",
+    );
+    show_load(
+        b"level 9 by refine:",
+        book,
+        sheet,
+        b"\x18\x12\x00\x07\x08\x00\x08",
+    );
+    show_load(b"level 9 by crown:", book, sheet, b"\x17\x08\x00\x08");
+}
+
 fn main() {
     let mut book = [0u32; 4737];
     let mut sheet = [0u32; 2880];
@@ -117,4 +160,6 @@ fn main() {
     show_exit(b"exit after it:", &book, &sheet, 0, 1);
     show_load(b"refresh again:", &mut book, &mut sheet, b"\x18");
     show_exit(b"exit of 1 by 1 now:", &book, &sheet, 1, 1);
+    false_names(&mut book, &mut sheet);
+    nine_levels(&mut book, &mut sheet);
 }

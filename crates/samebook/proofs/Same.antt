@@ -22,12 +22,12 @@ use Rattle.definitions.proofs.Words.{well-formed-words}
 use Rattle.samebook.proofs.Back.{WrittenBack, written-back}
 
 -- what is not false and can be decided is so
-stable : {A : Type 0} → Dec A → ((A → ⊥) → ⊥) → A
+pub stable : {A : Type 0} → Dec A → ((A → ⊥) → ⊥) → A
 stable (yes a) h = a
 stable (no n) h = absurd (h n)
 
 -- an answer that gives something refuses nothing
-gives-refuses : {vs : List ℕ} {k : ℕ} → gives vs ≡ refuses k → k ≡ 0
+pub gives-refuses : {vs : List ℕ} {k : ℕ} → gives vs ≡ refuses k → k ≡ 0
 gives-refuses e = sym (ap (λ (a : Answer). a .number) e)
 
 -- and says what it gives
@@ -35,7 +35,7 @@ gives-same : {a b : ℕ} → gives (a ∷ []) ≡ gives (b ∷ []) → a ≡ b
 gives-same e = ap (λ (a : Answer). getD (a .values) 0 0) e
 
 -- what Write's answer says
-wrote : (book out out′ : List ℕ) (size : ℕ) → WriteSays book out (gives (size ∷ [])) out′
+pub wrote : (book out out′ : List ℕ) (size : ℕ) → WriteSays book out (gives (size ∷ [])) out′
     → ((WellFormed book → ⊥) → ⊥) × (size ≡ length (written (treeOf book)))
     × (take size out′ ≡ written (treeOf book))
 wrote book out out′ size (inl refused) = absurd (omega (arith, gives-refuses (refused .1 .0)))
