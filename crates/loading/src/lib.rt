@@ -54,7 +54,7 @@ pub fn do_command(book: &mut [u32], sheet: &mut [u32], command: Command)
 }
 
 // Does the next command of a stream of which so many bytes are taken. Where there is none, or it is refused, nothing changes.
-fn take_next(book: &mut [u32], sheet: &mut [u32], stream: &[u8], taken: usize) -> Turn
+pub fn take_next(book: &mut [u32], sheet: &mut [u32], stream: &[u8], taken: usize) -> Turn
     requires { ⌜ WellFormed (now book) × TrueSheet (treeOf (now book)) (now sheet) ⌝ }
     ensures { λ r. ⌜ Turned (now (book .entry)) (now (sheet .entry)) (drop taken (now (stream .entry))) r (now (book .exit)) (now (sheet .exit)) ⌝ }
 {

@@ -74,7 +74,7 @@ fn operand(stream: &[u8], at: usize, k: usize) -> u32
 }
 
 // The operand of two bytes, high byte first, from place k.
-fn operand_pair(stream: &[u8], at: usize, k: usize) -> u32
+pub fn operand_pair(stream: &[u8], at: usize, k: usize) -> u32
     requires { ⌜ at + 2 + k < length (now stream) ⌝ }
     ensures { λ r. ⌜ (r ≡ pairAt (drop (at + 1) (now (stream .entry))) k) × (r < 65536) ⌝ }
 {

@@ -60,7 +60,7 @@ fn node_levels(book: &[u32]) -> [u32; 256]
 }
 
 // Stores a byte at a place, if the list goes so far; the next place.
-fn put_byte(out: &mut [u8], at: usize, b: u32) -> usize
+pub fn put_byte(out: &mut [u8], at: usize, b: u32) -> usize
     requires { ⌜ (at + 1 < 2 ^ 64) × (b < 256) ⌝ }
     ensures { λ r. ⌜ Stored (now (out .entry)) at (b ∷ []) r (now (out .exit)) ⌝ }
 {

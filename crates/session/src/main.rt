@@ -1,0 +1,8 @@
+// The session program (document 01, "Writing, choosing, the session"): up to 65,536 bytes of standard input, and their lines on standard output.
+use libc::STDIN_FILENO;
+
+fn main() {
+    let mut input = io::large_buffer();
+    let n = io::read_full(STDIN_FILENO, &mut input);
+    printing::print_session(&input[..n]);
+}
