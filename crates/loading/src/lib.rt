@@ -58,7 +58,7 @@ pub fn take_next(book: &mut [u32], sheet: &mut [u32], stream: &[u8], taken: usiz
     requires { ⌜ WellFormed (now book) × TrueSheet (treeOf (now book)) (now sheet) ⌝ }
     ensures { λ r. ⌜ Turned (now (book .entry)) (now (sheet .entry)) (drop taken (now (stream .entry))) r (now (book .exit)) (now (sheet .exit)) ⌝ }
 {
-    match reading::command_at(stream, taken) {
+    match reader::command_at(stream, taken) {
         Read::Ended => Turn::Stopped(0),
         Read::Refused(number) => Turn::Stopped(number),
         Read::Taken { command, size } => {
