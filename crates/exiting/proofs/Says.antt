@@ -1,8 +1,8 @@
 -- Exit's answer, refusal by refusal: what each way out of the call has to show. Assumes nothing.
 use mathlib.Core.Path.{_≡_, refl, subst}
-use mathlib.Core.Logic.{_⊎_, inl, inr}
-use mathlib.Core.Bool.{false}
-use mathlib.Core.Option.{some}
+use mathlib.Core.Logic.{inl, inr}
+use mathlib.Core.Bool.{true, false}
+use mathlib.Core.Option.{none, some}
 use mathlib.Core.List.{List, [], _∷_}
 use Prim.Native.Nat.{ℕ, _<_}
 use lib.ListN.{length}
@@ -11,39 +11,45 @@ use Rattle.definitions.specs.Costs.{ExitCost}
 use Rattle.definitions.specs.Book.{word, treeOf, WellFormed}
 use Rattle.definitions.specs.Sheet.{costWord, rowsOf}
 use Rattle.definitions.specs.Truth.{TrueSheet}
-use Rattle.definitions.specs.Answer.{gives, refuses}
+use Rattle.definitions.specs.Answer.{Answer, gives, refuses, Refusal, refuse, InOrder}
 use Rattle.definitions.specs.Calls.{WrongLength, ExitSays}
 use Rattle.definitions.proofs.Options.{none-some, true-false}
 use Rattle.definitions.proofs.Words.{present-word, no-start}
 use Rattle.sheet.specs.Fields.{Mark}
+use Rattle.truesheet.proofs.Lent.{lent-length, lent-torn, lent-untrue, lent-past}
 use Rattle.truesheet.proofs.Reading.{rowsOf-read, cost-said, cost-unsaid}
 use Rattle.truesheet.proofs.Machines.{is-stale, is-filled}
 
 module _ (book sheet : List ℕ) (m x : ℕ) where
-  pub says-length : WrongLength book sheet → ExitSays book sheet m x (refuses 1)
-  says-length wrong = inl (wrong, refl)
+  -- what a refusal says, and what is said where none holds
+  abbrev Refused : Answer → ℕ → Type 0
+  Refused answer k = answer ≡ refuses k
 
-  -- lists of the right lengths have no wrong one
-  right-lengths : length book ≡ bookLength → length sheet ≡ sheetLength → WrongLength book sheet → ⊥
-  right-lengths l k (inl wrong) = wrong l
-  right-lengths l k (inr wrong) = wrong k
+  abbrev Done : Answer → Type 0
+  Done answer = (c : ℕ) × ExitCost (treeOf book) m x (some c) × (answer ≡ gives (c ∷ []))
+
+  abbrev rest : List Refusal
+  rest =
+      refuse 6 ((m < machines) × (x < commands) → ⊥)
+      ∷ refuse 7 (treeOf book .start m ≡ none)
+      ∷ refuse 13 (rowsOf sheet .stale m ≡ true)
+      ∷ refuse 16 (ExitCost (treeOf book) m x none)
+      ∷ []
+
+  pub says-length : WrongLength book sheet → ExitSays book sheet m x (refuses 1)
+  says-length wrong = lent-length book sheet rest (Refused (refuses 1)) (Done (refuses 1)) wrong refl
 
   pub says-torn : length book ≡ bookLength → length sheet ≡ sheetLength → (WellFormed book → ⊥) → ExitSays book sheet m x (refuses 2)
-  says-torn l k torn = inr (right-lengths l k, inl (torn, refl))
+  says-torn l k torn = lent-torn book sheet rest (Refused (refuses 2)) (Done (refuses 2)) l k torn refl
 
   pub says-untrue : WellFormed book → length sheet ≡ sheetLength
       → (TrueSheet (treeOf book) sheet → ⊥) → ExitSays book sheet m x (refuses 3)
-  says-untrue w k untrue = inr (right-lengths (w .length) k, inr (λ torn. torn w, inl (untrue, refl)))
+  says-untrue w k untrue = lent-untrue book sheet rest (Refused (refuses 3)) (Done (refuses 3)) w k untrue refl
 
   module _ (w : WellFormed book) (s : TrueSheet (treeOf book) sheet) where
     -- none of the refusals 1, 2 and 3 holds
-    lent : {P Q R Rest : Type 0} → Rest
-        → (WrongLength book sheet × P)
-        ⊎ ((WrongLength book sheet → ⊥)
-        × (((WellFormed book → ⊥) × Q)
-        ⊎ (((WellFormed book → ⊥) → ⊥)
-        × (((TrueSheet (treeOf book) sheet → ⊥) × R) ⊎ (((TrueSheet (treeOf book) sheet → ⊥) → ⊥) × Rest)))))
-    lent rest = inr (right-lengths (w .length) (s .length), inr (λ torn. torn w, inr (λ untrue. untrue s, rest)))
+    lent : {answer : Answer} → InOrder rest (Refused answer) (Done answer) → ExitSays book sheet m x answer
+    lent {answer} = lent-past book sheet rest (Refused answer) (Done answer) w s
 
     pub says-range : ((m < machines) × (x < commands) → ⊥) → ExitSays book sheet m x (refuses 6)
     says-range out = lent (inl (out, refl))

@@ -151,6 +151,9 @@ fn main() {
     falsify(b"name in another machine:", &book, &mut sheet, 2116, 10);
     falsify(b"command out of range:", &book, &mut sheet, 2117, 16);
     falsify(b"unused row not blank:", &book, &mut sheet, 2112 + 60, 0);
+    falsify(b"mark of an unused machine:", &book, &mut sheet, 33 * 5, 1);
+    falsify(b"stale below one that is not:", &book, &mut sheet, 33, 1);
+    falsify(b"name at a start node:", &book, &mut sheet, 2113, 1);
     show_load(
         b"two taken, one refused, one not reached:",
         &mut book,
@@ -158,6 +161,7 @@ fn main() {
         b"\x15\x00\x0A\x01\x16\x00\x02\x13\x00\x02\x18",
     );
     show_exit(b"exit after it:", &book, &sheet, 0, 1);
+    falsify(b"stale row not blank:", &book, &mut sheet, 1, 0);
     show_load(b"refresh again:", &mut book, &mut sheet, b"\x18");
     show_exit(b"exit of 1 by 1 now:", &book, &sheet, 1, 1);
     false_names(&mut book, &mut sheet);

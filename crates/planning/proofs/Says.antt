@@ -15,33 +15,10 @@ use Rattle.definitions.specs.Sheet.{rowsOf}
 use Rattle.definitions.specs.Truth.{TrueSheet}
 use Rattle.definitions.specs.Answer.{Answer, gives, refuses, Refusal, refuse, InOrder}
 use Rattle.definitions.specs.Calls.{WrongLength, sheetRefusals, planRefusals, Plan, PlanSays}
+use Rattle.truesheet.proofs.Lent.{lent-length, lent-torn, lent-untrue, lent-past}
 use Rattle.stepping.specs.Meaning.{StatesJudged}
 use Rattle.stepping.proofs.States.{BothStates, states-met, states-past}
 use Rattle.planning.specs.Meaning.{Answers}
-
--- ---- refusals 1, 2 and 3, whatever comes after them
-
-module _ (book sheet : List ℕ) (rest : List Refusal) (Refused : ℕ → Type 0) (Done : Type 0) where
-  pub lent-length : WrongLength book sheet → Refused 1 → InOrder (sheetRefusals book sheet rest) Refused Done
-  lent-length wrong p = inl (wrong, p)
-
-  right-lengths : length book ≡ bookLength → length sheet ≡ sheetLength → WrongLength book sheet → ⊥
-  right-lengths l k (inl wrong) = wrong l
-  right-lengths l k (inr wrong) = wrong k
-
-  pub lent-torn : length book ≡ bookLength → length sheet ≡ sheetLength → (WellFormed book → ⊥) → Refused 2
-      → InOrder (sheetRefusals book sheet rest) Refused Done
-  lent-torn l k torn p = inr (right-lengths l k, inl (torn, p))
-
-  pub lent-untrue : WellFormed book → length sheet ≡ sheetLength → (TrueSheet (treeOf book) sheet → ⊥) → Refused 3
-      → InOrder (sheetRefusals book sheet rest) Refused Done
-  lent-untrue w k untrue p = inr (right-lengths (w .length) k, inr (λ torn. torn w, inl (untrue, p)))
-
-  pub lent-past : WellFormed book → TrueSheet (treeOf book) sheet → InOrder rest Refused Done
-      → InOrder (sheetRefusals book sheet rest) Refused Done
-  lent-past w s i = inr (right-lengths (w .length) (s .length), inr (λ torn. torn w, inr (λ untrue. untrue s, i)))
-
--- ---- Plan
 
 module _ (book sheet : List ℕ) (a b : ℕ) (buffer : List ℕ) where
   abbrev t : Tree

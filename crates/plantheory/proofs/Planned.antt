@@ -15,13 +15,14 @@ use Rattle.definitions.specs.Costs.{LeastCost}
 use Rattle.definitions.specs.Sheet.{Rows}
 use Rattle.definitions.specs.Truth.{TrueRows}
 use Rattle.definitions.specs.Calls.{Plan}
+use Rattle.definitions.specs.Demand.{PlanBounds}
 use Rattle.definitions.proofs.Options.{none-some, some-same}
 use Rattle.definitions.proofs.Path.{Enters, plain, down, climb-found}
 use Rattle.definitions.proofs.Runs.{run-first}
 use Rattle.definitions.proofs.Local.{LocalRows}
 use Rattle.definitions.proofs.LocalTruth.{true-local}
 use Rattle.definitions.proofs.Reaching.{along-names}
-use Rattle.definitions.proofs.Simple.{trail, trail-nil, passes-trail, inside-root, state-test, step-stepped, moves-length}
+use Rattle.definitions.proofs.Simple.{trail, trail-nil, passes-trail, inside-root, state-test, step-stepped, moves-length, plan-largest}
 use Rattle.plantheory.specs.Search.{openedFor, planMove, PlanNamed, PlanSearched}
 use Rattle.plantheory.specs.Expand.{nodePart, planPart}
 use Rattle.plantheory.proofs.Landing.{Opening, opening-for, opened-first, opened-second, Position, plain-position}
@@ -169,7 +170,12 @@ pub plan-count : {t : Tree} → Sound t → {a b m cost : ℕ} {list : List ℕ}
 plan-count {t} s {a} {b} {cost = cost} {list = list} own-a plain-a plan =
     omega (arith, moves-length s a b list cost (state-test t own-a plain-a) (plan .moves) (plan .simple))
 
--- and all of them are commands
+-- and it costs at most 255 × 65,535
+pub plan-bounds : PlanBounds
+plan-bounds t s a b cost list at plan =
+    (omega (arith, moves-length s a b list cost at (plan .moves) (plan .simple)), plan-largest s a b cost at (plan .least))
+
+-- all its commands are commands
 run-commands : {t : Tree} → Sound t → (top n : ℕ) (xs : List ℕ) {a : Arrival} → runIn t top n xs ≡ some a → All (λ x. x < commands) xs
 run-commands s top n [] e = tt
 run-commands {t} s top n (x ∷ xs) e =

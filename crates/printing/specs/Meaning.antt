@@ -17,7 +17,7 @@ pub record Fresh (book sheet : List ℕ) : Type 0 where
   pub tree : treeOf book ≡ freshTree
   pub rows : rowsOf sheet ≡ openRows freshTree
 
--- turns on a book and its sheet come to the end of the input, and these are their lines
+-- turns on a book and its sheet came to the end of the input, and gave these lines
 pub record Ran (input book sheet : List ℕ) : Type 0 where
   pub lines : List (List ℕ)
   pub turns : Repeats input (treeOf book) (rowsOf sheet) 0 lines
@@ -34,7 +34,7 @@ pub record RanFresh (input : List ℕ) : Type 0 where
   pub lines : List (List ℕ)
   pub turns : Repeats input freshTree (openRows freshTree) 0 lines
 
--- a session on its input comes to its end, and these are its lines
+-- a session on its input comes to its end, and the lines that its turns gave are the session's
 pub record Ended (input : List ℕ) : Type 0 where
   pub lines : List (List ℕ)
   pub prints : SessionPrints input lines

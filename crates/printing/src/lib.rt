@@ -1,4 +1,5 @@
-// A session on standard output (document 01, "Writing, choosing, the session"): the lines of its turns, from a book opened fresh to the end.
+// A session on standard output (document 01, "Writing, choosing, the session"): turns from a book opened fresh to the end, the line of each
+// written. The promises here are about the turns; that each line is written, and once, is seen by running.
 ghost use Rattle.definitions.specs.Book.{treeOf, WellFormed};
 ghost use Rattle.definitions.specs.Truth.{TrueSheet};
 ghost use Rattle.printing.specs.Meaning.{Fresh, Ran, RanFresh, Ended};

@@ -4,3 +4,4 @@ pub mod Exits
 pub mod Machines
 pub mod Nodes
 pub mod Chains
+pub mod Lent

@@ -33,8 +33,8 @@ module _ (o : Opening) (book sheet bytes ends : List ℕ) (a b : ℕ) (buffer : 
     right : WrongLength book sheet ⊎ (length buffer ≡ planBuffer → ⊥) → ⊥
     right = ⊎-elim (right-lengths book sheet l k) (λ wrong. wrong room)
 
-    -- 19: malformed ends
-    pub says-malformed : Malformed ends bytes → RunSays o book sheet bytes ends a b buffer (refuses 19) book sheet buffer
+    -- 99: malformed ends
+    pub says-malformed : Malformed ends bytes → RunSays o book sheet bytes ends a b buffer (refuses 99) book sheet buffer
     says-malformed bad = inr (right, inl (bad, (refl, refl, refl, refl)))
 
     -- neither

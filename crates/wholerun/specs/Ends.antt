@@ -18,7 +18,7 @@ abbrev pub streamsOf : ℕ → List ℕ → List ℕ → List (List ℕ)
 streamsOf from [] bytes = []
 streamsOf from (e ∷ ends) bytes = take (e - from) (drop from bytes) ∷ streamsOf e ends bytes
 
--- streams one after the other, from an offset on: their bytes in one list, and where each of them ends
+-- streams one after the other: their bytes in one list, and where each of them ends where the first begins at an offset
 abbrev pub together : List (List ℕ) → List ℕ
 together [] = []
 together (s ∷ streams) = s ++ together streams

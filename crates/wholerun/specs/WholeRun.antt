@@ -49,10 +49,10 @@ pub record Answered (t : Tree) (a b : ℕ) (buffer : List ℕ) (answer : Answer)
   pub answers : AnswersFor t a b buffer answer buffer′
   pub demanded : Demanded t a b answer buffer′
 
--- The whole run, on every input. It refuses 1 (a wrong length of the book, the sheet or the plan buffer) and 19 (malformed ends; no call
--- of document 01 has this number), writing nothing. Else the lists hold the expected station and the answer is Plan's of it.
+-- The whole run, on every input. It refuses 1 (a wrong length of the book, the sheet or the plan buffer) and 99 (malformed ends; no call
+-- of documents 01 and 02 has this number), writing nothing. Else the lists hold the expected station and the answer is Plan's of it.
 abbrev pub RunSays : Opening → List ℕ → List ℕ → List ℕ → List ℕ → ℕ → ℕ → List ℕ → Answer → List ℕ → List ℕ → List ℕ → Type 0
 RunSays opening book sheet bytes ends a b buffer answer book′ sheet′ buffer′ =
-    InOrder (refuse 1 (WrongLength book sheet ⊎ (length buffer ≡ planBuffer → ⊥)) ∷ refuse 19 (Malformed ends bytes) ∷ [])
+    InOrder (refuse 1 (WrongLength book sheet ⊎ (length buffer ≡ planBuffer → ⊥)) ∷ refuse 99 (Malformed ends bytes) ∷ [])
     (λ k. (answer ≡ refuses k) × (book′ ≡ book) × (sheet′ ≡ sheet) × (buffer′ ≡ buffer))
     (Answered (expected (openTree opening) (streamsOf 0 ends bytes)) a b buffer answer book′ sheet′ buffer′)

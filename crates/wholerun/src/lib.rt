@@ -83,7 +83,7 @@ fn prepare(opening: Opening, book: &mut [u32], sheet: &mut [u32], bytes: &[u8], 
 }
 
 // The whole run: opens a holding, does a Load for each of the streams that the ends cut the bytes into and one for a refresh alone, and asks
-// Plan from a to b, with 255 bytes. It refuses 1 (a wrong length) and 19 (malformed ends), writing nothing; else it answers as Plan does.
+// Plan from a to b, with 255 bytes. It refuses 1 (a wrong length) and 99 (malformed ends), writing nothing; else it answers as Plan does.
 pub fn whole_run(
     opening: Opening,
     book: &mut [u32],
@@ -107,7 +107,7 @@ pub fn whole_run(
         return PlanAnswer::Refused(1);
     }
     if !well_ended(ends, bytes.len()) {
-        return PlanAnswer::Refused(19);
+        return PlanAnswer::Refused(99);
     }
     prepare(opening, book, sheet, bytes, ends);
     planning::plan(book, sheet, a, b, buffer)
