@@ -4,3 +4,4 @@ pub mod Open
 pub mod Edits
 pub mod Loaded
 pub mod Unique
+pub mod Spared
