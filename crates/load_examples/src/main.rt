@@ -92,78 +92,82 @@ fn nine_levels(book: &mut [u32; 4737], sheet: &mut [u32; 2880]) {
     show_load(b"level 9 by crown:", book, sheet, b"\x17\x08\x00\x08");
 }
 
+// The mast book loaded, refreshed, and asked for its exit costs.
+fn mast_book(book: &mut [u32; 4737], sheet: &mut [u32; 2880]) {
+    show_load(
+        b"mast book:",
+        book,
+        sheet,
+        b"\x10\x00\x00\x00\x11\x00\x00\x01\x11\x00\x00\x02\x12\x00\x01\x01\x00\x0A\x11\x01\x00\x0B\x14\x00\x00\x00\x00\x01\x00\x05\x14\x00\x00\x02\x00\x02\x00\x14\x14\x00\x01\x01\x00\x02\x00\x03\x14\x00\x02\x00\x00\x00\x00\x07\x14\x00\x0A\x01\x00\x0A\x00\x01\x14\x00\x0A\x02\x00\x0B\x00\x04",
+    );
+    show_exit(b"exit while marked:", book, sheet, 1, 0);
+    show_load(b"refresh:", book, sheet, b"\x18");
+    show_exit(b"exit of 1 by 0:", book, sheet, 1, 0);
+    show_exit(b"exit of 1 by 1:", book, sheet, 1, 1);
+    show_exit(b"exit of 1 by 2:", book, sheet, 1, 2);
+    show_exit(b"exit of 0 by 0:", book, sheet, 0, 0);
+    show_exit(b"exit of 0 by 1:", book, sheet, 0, 1);
+    show_exit(b"exit of 0 by 2:", book, sheet, 0, 2);
+}
+
+// Each refusal of a command, 4 to 11.
+fn refusals(book: &mut [u32; 4737], sheet: &mut [u32; 2880]) {
+    show_load(b"unknown opcode:", book, sheet, b"\x19\x00\x00\x00\x02");
+    show_load(b"cut short:", book, sheet, b"\x14\x00\x00\x00");
+    show_load(b"node 256:", book, sheet, b"\x11\x00\x01\x00");
+    show_load(b"machine not in use:", book, sheet, b"\x11\x05\x00\x20");
+    show_load(b"node in use:", book, sheet, b"\x11\x00\x00\x0B");
+    show_load(
+        b"already refined:",
+        book,
+        sheet,
+        b"\x12\x00\x01\x02\x00\x14",
+    );
+    show_load(b"remove node 10:", book, sheet, b"\x13\x00\x0A");
+    show_load(
+        b"target elsewhere:",
+        book,
+        sheet,
+        b"\x14\x00\x00\x03\x00\x0A\x00\x01",
+    );
+}
+
+// Sheets with one false word, one for each kind of word.
+fn false_words(book: &mut [u32; 4737], sheet: &mut [u32; 2880]) {
+    falsify(b"mark of two:", book, sheet, 0, 2);
+    falsify(b"exit cost one off:", book, sheet, 1, 6);
+    falsify(b"last node that has a transition:", book, sheet, 17, 0);
+    falsify(b"cost one off:", book, sheet, 2115, 6);
+    falsify(b"name in another machine:", book, sheet, 2116, 10);
+    falsify(b"command out of range:", book, sheet, 2117, 16);
+    falsify(b"unused row not blank:", book, sheet, 2112 + 60, 0);
+    falsify(b"mark of an unused machine:", book, sheet, 33 * 5, 1);
+    falsify(b"stale below one that is not:", book, sheet, 33, 1);
+    falsify(b"name at a start node:", book, sheet, 2113, 1);
+}
+
+// A stream that is refused on its way: what stands before the refused command is done.
+fn stopped(book: &mut [u32; 4737], sheet: &mut [u32; 2880]) {
+    show_load(
+        b"two taken, one refused, one not reached:",
+        book,
+        sheet,
+        b"\x15\x00\x0A\x01\x16\x00\x02\x13\x00\x02\x18",
+    );
+    show_exit(b"exit after it:", book, sheet, 0, 1);
+    falsify(b"stale row not blank:", book, sheet, 1, 0);
+    show_load(b"refresh again:", book, sheet, b"\x18");
+    show_exit(b"exit of 1 by 1 now:", book, sheet, 1, 1);
+}
+
 fn main() {
     let mut book = [0u32; 4737];
     let mut sheet = [0u32; 2880];
     open(&mut book, &mut sheet);
-    show_load(
-        b"mast book:",
-        &mut book,
-        &mut sheet,
-        b"\x10\x00\x00\x00\x11\x00\x00\x01\x11\x00\x00\x02\x12\x00\x01\x01\x00\x0A\x11\x01\x00\x0B\x14\x00\x00\x00\x00\x01\x00\x05\x14\x00\x00\x02\x00\x02\x00\x14\x14\x00\x01\x01\x00\x02\x00\x03\x14\x00\x02\x00\x00\x00\x00\x07\x14\x00\x0A\x01\x00\x0A\x00\x01\x14\x00\x0A\x02\x00\x0B\x00\x04",
-    );
-    show_exit(b"exit while marked:", &book, &sheet, 1, 0);
-    show_load(b"refresh:", &mut book, &mut sheet, b"\x18");
-    show_exit(b"exit of 1 by 0:", &book, &sheet, 1, 0);
-    show_exit(b"exit of 1 by 1:", &book, &sheet, 1, 1);
-    show_exit(b"exit of 1 by 2:", &book, &sheet, 1, 2);
-    show_exit(b"exit of 0 by 0:", &book, &sheet, 0, 0);
-    show_exit(b"exit of 0 by 1:", &book, &sheet, 0, 1);
-    show_exit(b"exit of 0 by 2:", &book, &sheet, 0, 2);
-    show_load(
-        b"unknown opcode:",
-        &mut book,
-        &mut sheet,
-        b"\x19\x00\x00\x00\x02",
-    );
-    show_load(b"cut short:", &mut book, &mut sheet, b"\x14\x00\x00\x00");
-    show_load(b"node 256:", &mut book, &mut sheet, b"\x11\x00\x01\x00");
-    show_load(
-        b"machine not in use:",
-        &mut book,
-        &mut sheet,
-        b"\x11\x05\x00\x20",
-    );
-    show_load(b"node in use:", &mut book, &mut sheet, b"\x11\x00\x00\x0B");
-    show_load(
-        b"already refined:",
-        &mut book,
-        &mut sheet,
-        b"\x12\x00\x01\x02\x00\x14",
-    );
-    show_load(b"remove node 10:", &mut book, &mut sheet, b"\x13\x00\x0A");
-    show_load(
-        b"target elsewhere:",
-        &mut book,
-        &mut sheet,
-        b"\x14\x00\x00\x03\x00\x0A\x00\x01",
-    );
-    falsify(b"mark of two:", &book, &mut sheet, 0, 2);
-    falsify(b"exit cost one off:", &book, &mut sheet, 1, 6);
-    falsify(
-        b"last node that has a transition:",
-        &book,
-        &mut sheet,
-        17,
-        0,
-    );
-    falsify(b"cost one off:", &book, &mut sheet, 2115, 6);
-    falsify(b"name in another machine:", &book, &mut sheet, 2116, 10);
-    falsify(b"command out of range:", &book, &mut sheet, 2117, 16);
-    falsify(b"unused row not blank:", &book, &mut sheet, 2112 + 60, 0);
-    falsify(b"mark of an unused machine:", &book, &mut sheet, 33 * 5, 1);
-    falsify(b"stale below one that is not:", &book, &mut sheet, 33, 1);
-    falsify(b"name at a start node:", &book, &mut sheet, 2113, 1);
-    show_load(
-        b"two taken, one refused, one not reached:",
-        &mut book,
-        &mut sheet,
-        b"\x15\x00\x0A\x01\x16\x00\x02\x13\x00\x02\x18",
-    );
-    show_exit(b"exit after it:", &book, &sheet, 0, 1);
-    falsify(b"stale row not blank:", &book, &mut sheet, 1, 0);
-    show_load(b"refresh again:", &mut book, &mut sheet, b"\x18");
-    show_exit(b"exit of 1 by 1 now:", &book, &sheet, 1, 1);
+    mast_book(&mut book, &mut sheet);
+    refusals(&mut book, &mut sheet);
+    false_words(&mut book, &mut sheet);
+    stopped(&mut book, &mut sheet);
     false_names(&mut book, &mut sheet);
     nine_levels(&mut book, &mut sheet);
 }
