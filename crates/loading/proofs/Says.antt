@@ -11,32 +11,32 @@ use Rattle.definitions.specs.Load.{load}
 use Rattle.definitions.specs.Calls.{LoadAnswer, LoadDone, LoadSays, WrongLength}
 use Rattle.truesheet.proofs.Lent.{lent-length, lent-torn, lent-untrue, lent-past}
 
-module _ (book sheet stream : List ℕ) {answer : LoadAnswer} where
-  -- what a refusal says of the lists after the call, and what is said where none holds
-  abbrev Refused : List ℕ → List ℕ → ℕ → Type 0
-  Refused book′ sheet′ k = (answer ≡ record { bytes = 0; commands = 0; number = k }) × (book′ ≡ book) × (sheet′ ≡ sheet)
+module _ (book sheet stream : List ℕ) where
+  -- what a refusal says of the answer and of the lists after the call, and what is said where none holds
+  abbrev Refused : LoadAnswer → List ℕ → List ℕ → ℕ → Type 0
+  Refused answer book′ sheet′ k = (answer ≡ record { bytes = 0; commands = 0; number = k }) × (book′ ≡ book) × (sheet′ ≡ sheet)
 
-  abbrev Done : List ℕ → List ℕ → Type 0
-  Done book′ sheet′ = LoadDone (treeOf book) (rowsOf sheet) (load (treeOf book) stream) answer book′ sheet′
+  abbrev Done : LoadAnswer → List ℕ → List ℕ → Type 0
+  Done answer book′ sheet′ = LoadDone (treeOf book) (rowsOf sheet) (load (treeOf book) stream) answer book′ sheet′
 
   -- 1: a wrong length
-  pub says-length : WrongLength book sheet → answer ≡ record { bytes = 0; commands = 0; number = 1 }
+  pub says-length : {answer : LoadAnswer} → WrongLength book sheet → answer ≡ record { bytes = 0; commands = 0; number = 1 }
       → LoadSays book sheet stream answer book sheet
-  says-length wrong e = lent-length book sheet [] (Refused book sheet) (Done book sheet) wrong (e, refl, refl)
+  says-length {answer} wrong e = lent-length book sheet [] (Refused answer book sheet) (Done answer book sheet) wrong (e, refl, refl)
 
   -- 2: both lengths are right, the book is not well formed
-  pub says-torn : length book ≡ bookLength → length sheet ≡ sheetLength → (WellFormed book → ⊥)
+  pub says-torn : {answer : LoadAnswer} → length book ≡ bookLength → length sheet ≡ sheetLength → (WellFormed book → ⊥)
       → answer ≡ record { bytes = 0; commands = 0; number = 2 } → LoadSays book sheet stream answer book sheet
-  says-torn l k torn e = lent-torn book sheet [] (Refused book sheet) (Done book sheet) l k torn (e, refl, refl)
+  says-torn {answer} l k torn e = lent-torn book sheet [] (Refused answer book sheet) (Done answer book sheet) l k torn (e, refl, refl)
 
   module _ (w : WellFormed book) where
     -- 3: the sheet is not true of it
-    pub says-untrue : length sheet ≡ sheetLength → (TrueSheet (treeOf book) sheet → ⊥)
+    pub says-untrue : {answer : LoadAnswer} → length sheet ≡ sheetLength → (TrueSheet (treeOf book) sheet → ⊥)
         → answer ≡ record { bytes = 0; commands = 0; number = 3 } → LoadSays book sheet stream answer book sheet
-    says-untrue k untrue e = lent-untrue book sheet [] (Refused book sheet) (Done book sheet) w k untrue (e, refl, refl)
+    says-untrue {answer} k untrue e = lent-untrue book sheet [] (Refused answer book sheet) (Done answer book sheet) w k untrue (e, refl, refl)
 
     -- none of them holds
-    pub says-done : TrueSheet (treeOf book) sheet → {book′ sheet′ : List ℕ}
+    pub says-done : TrueSheet (treeOf book) sheet → {answer : LoadAnswer} {book′ sheet′ : List ℕ}
         → LoadDone (treeOf book) (rowsOf sheet) (load (treeOf book) stream) answer book′ sheet′
         → LoadSays book sheet stream answer book′ sheet′
-    says-done true-sheet {book′} {sheet′} done = lent-past book sheet [] (Refused book′ sheet′) (Done book′ sheet′) w true-sheet done
+    says-done true-sheet {answer} {book′} {sheet′} done = lent-past book sheet [] (Refused answer book′ sheet′) (Done answer book′ sheet′) w true-sheet done
