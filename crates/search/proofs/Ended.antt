@@ -10,9 +10,9 @@ use Rattle.definitions.specs.Limits.{nodes, absent}
 use Rattle.definitions.specs.Step.{Arrival}
 use Rattle.definitions.proofs.Options.{equal-or-not}
 use Rattle.search.specs.Search.{largestMove, unreached, distanceOf, nameOf, Named, Certificate}
-use Rattle.search.specs.Parts.{waiting, at, Labels, labels}
+use Rattle.search.specs.Parts.{at, Labels, labels}
 use Rattle.search.proofs.Reading.{distance-is, distance-some, distance-none, name-is, name-none}
-use Rattle.search.proofs.Settling.{Moves, Label, by-move, blank, Settling}
+use Rattle.search.proofs.Settling.{waiting, Moves, Label, by-move, blank, Settling}
 
 module _ {k s : ℕ} {move : ℕ → ℕ → Option Arrival} {first : Labels} {rank : ℕ → ℕ} {n : ℕ} (dist before by : List ℕ)
     (small : k ≤ nodes) (in-s : s < k) (moves : Moves k move) (inv : Settling k s move first (labels dist before by) rank n)

@@ -3,7 +3,9 @@ pub mod Counting
 pub mod Stores
 pub mod Filling
 pub mod Picking
+pub mod Listing
 pub mod Settling
+pub mod Frontier
 pub mod Ended
 pub mod Turning
 pub mod Least

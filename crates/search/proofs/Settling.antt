@@ -12,9 +12,20 @@ use Rattle.definitions.specs.Limits.{nodes, commands, absent}
 use Rattle.definitions.specs.Step.{Arrival}
 use Rattle.definitions.proofs.Options.{equal-or-not}
 use Rattle.search.specs.Search.{largestMove, unreached}
-use Rattle.search.specs.Parts.{waiting, Labels, Alike, Blank, Picked, Change, stays, better, Relaxed}
+use Rattle.search.specs.Parts.{Labels, Alike, Blank, Change, stays, better, Relaxed}
 use Rattle.search.proofs.Counting.{count-all, count-less}
 use Rattle.search.proofs.Stores.{Put, change-less}
+
+-- the rank of a node that is not settled; that of a settled one is how many were settled before it
+abbrev pub waiting : ℕ
+waiting = 65535
+
+-- u is a reached node that is not settled, and none of those is nearer
+pub record Picked (k : ℕ) (dist rank : ℕ → ℕ) (u : ℕ) : Type 0 where
+  pub inside : u < k
+  pub waits : rank u ≡ waiting
+  pub reached : dist u < unreached
+  pub least : (v : ℕ) → v < k → rank v ≡ waiting → dist u ≤ dist v
 
 -- moves between k nodes
 pub record Moves (k : ℕ) (move : ℕ → ℕ → Option Arrival) : Type 0 where
@@ -65,30 +76,20 @@ module _ {k s : ℕ} {st : Labels} {rank : ℕ → ℕ} (in-s : s < k) (fill : B
         rest = λ v h. record { dist = refl; before = refl; by = refl };
       }
 
-  -- the source is the nearest
-  pub begins-picked : Picked k (st .dist) rank s
-  begins-picked =
-      record {
-        waits = waits s;
-        reached = λ h. omega (arith, fill .start);
-        least = λ h v hv w. omega (arith, fill .start);
-        over = λ h v hv w. absurd (omega arith);
-      }
-
 module _ {k s : ℕ} {move : ℕ → ℕ → Option Arrival} {first old : Labels} {rank : ℕ → ℕ} {n u : ℕ}
-    (moves : Moves k move) (inv : Settling k s move first old rank n) (in-u : u < k) (pick : Picked k (old .dist) rank u) where
+    (moves : Moves k move) (inv : Settling k s move first old rank n) (pick : Picked k (old .dist) rank u) where
   -- the one in hand costs no more than its rank allows
   pub hand-cheap : old .dist u ≤ n * largestMove
-  hand-cheap = ⊎-elim (λ (e : u ≡ s). omega (arith, ap (old .dist) e, inv .start-dist)) (λ e. go (inv .others u in-u e)) (equal-or-not u s)
+  hand-cheap = ⊎-elim (λ (e : u ≡ s). omega (arith, ap (old .dist) e, inv .start-dist)) (λ e. go (inv .others u (pick .inside) e)) (equal-or-not u s)
     where
       go : Label k move old rank n u → old .dist u ≤ n * largestMove
       go (by-move p x w before by in-p done less step d) = omega (arith, inv .cheap p in-p done, moves .cheap p x _ step)
-      go (blank d before by) = omega (arith, pick .reached in-u)
+      go (blank d before by) = omega (arith, pick .reached)
 
 -- one turn: u, the nearest of the nodes that wait, is settled, and its moves are relaxed
 module _ {k s : ℕ} {move : ℕ → ℕ → Option Arrival} {first old new : Labels} {rank rank′ : ℕ → ℕ} {n u : ℕ} {row : ℕ → Option Arrival}
     (small : k ≤ nodes) (moves : Moves k move) (inv : Settling k s move first old rank n)
-    (in-u : u < k) (pick : Picked k (old .dist) rank u) (put : Put rank rank′ u n)
+    (pick : Picked k (old .dist) rank u) (put : Put rank rank′ u n)
     (same-row : (x : ℕ) → move u x ≡ row x) (r : Relaxed row u commands old new) where
   few : n ≤ k
   few = omega (arith, inv .count)
@@ -99,7 +100,7 @@ module _ {k s : ℕ} {move : ℕ → ℕ → Option Arrival} {first old new : La
     where
       go : Change row u old new v → Alike old new v
       go (stays same) = same
-      go (better x w e d less before by) = absurd (omega (arith, inv .low v u h in-u done (pick .waits in-u)))
+      go (better x w e d less before by) = absurd (omega (arith, inv .low v u h (pick .inside) done (pick .waits)))
 
   hand-same : Alike old new u
   hand-same = go (r .each u)
@@ -129,14 +130,14 @@ module _ {k s : ℕ} {move : ℕ → ℕ → Option Arrival} {first old new : La
   -- no settled node costs more than u
   under-hand : (v : ℕ) → v < k → rank′ v < n + 1 → old .dist v ≤ old .dist u
   under-hand v h done =
-      ⊎-elim (λ (e : v ≡ u). omega (arith, ap (old .dist) e)) (λ d. inv .low v u h in-u (d .0) (pick .waits in-u)) (after v h done)
+      ⊎-elim (λ (e : v ≡ u). omega (arith, ap (old .dist) e)) (λ d. inv .low v u h (pick .inside) (d .0) (pick .waits)) (after v h done)
 
   -- and no other costs less
   over-hand : (v : ℕ) → v < k → rank′ v ≡ waiting → old .dist u ≤ new .dist v
   over-hand v h waits = go (r .each v)
     where
       go : Change row u old new v → old .dist u ≤ new .dist v
-      go (stays same) = omega (arith, same .dist, pick .least in-u v h (waited v waits .1))
+      go (stays same) = omega (arith, same .dist, pick .least v h (waited v waits .1))
       go (better x w e d less before by) = omega arith
 
   -- the parts of the invariant, after the turn
@@ -149,7 +150,7 @@ module _ {k s : ℕ} {move : ℕ → ℕ → Option Arrival} {first old new : La
   turn-cheap : (v : ℕ) → v < k → rank′ v < n + 1 → new .dist v ≤ rank′ v * largestMove
   turn-cheap v h done =
       let same = still v h done .dist in
-      ⊎-elim (λ (e : v ≡ u). omega (arith, ap (old .dist) e, ap rank′ e, put .same, hand-cheap moves inv in-u pick))
+      ⊎-elim (λ (e : v ≡ u). omega (arith, ap (old .dist) e, ap rank′ e, put .same, hand-cheap moves inv pick))
       (λ d. omega (arith, d .1, inv .cheap v h (d .0)))
       (after v h done)
 
@@ -169,7 +170,7 @@ module _ {k s : ℕ} {move : ℕ → ℕ → Option Arrival} {first old new : La
     where
       kept : Alike old new v → Label k move old rank n v → Label k move new rank′ (n + 1) v
       kept same (by-move p x w before by in-p done less step d) =
-          let away : p ≡ u → ⊥ = λ e. omega (arith, ap rank e, pick .waits in-u, few) in
+          let away : p ≡ u → ⊥ = λ e. omega (arith, ap rank e, pick .waits, few) in
           let same-p = put .other p away in
           let rank-v : rank p < rank′ v =
           ⊎-elim (λ (e : v ≡ u). omega (arith, ap rank′ e, put .same)) (λ e. omega (arith, put .other v e)) (equal-or-not v u) in
@@ -182,7 +183,7 @@ module _ {k s : ℕ} {move : ℕ → ℕ → Option Arrival} {first old new : La
       go (better x w e d less before by) =
           let waits : rank′ v ≡ waiting =
           ⊎-elim (λ waits. waits) (λ done. absurd (omega (arith, still v h done .dist, less))) (turn-ranks v h) in
-          by-move u x w before by in-u (omega (arith, put .same)) (omega (arith, put .same, few)) (same-row x ∙ e) (omega (arith, hand-same .dist))
+          by-move u x w before by (pick .inside) (omega (arith, put .same)) (omega (arith, put .same, few)) (same-row x ∙ e) (omega (arith, hand-same .dist))
 
   turn-rest : (v : ℕ) → k ≤ v → Alike first new v
   turn-rest v h = go (r .each v)
@@ -203,7 +204,7 @@ module _ {k s : ℕ} {move : ℕ → ℕ → Option Arrival} {first old new : La
   turn-count : n + 1 + countBelow k (λ v. eqb (rank′ v) waiting) ≡ k
   turn-count =
       let fewer =
-      count-less k (λ v. eqb (rank v) waiting) (λ v. eqb (rank′ v) waiting) u in-u (eq-eqb (rank u) waiting (pick .waits in-u))
+      count-less k (λ v. eqb (rank v) waiting) (λ v. eqb (rank′ v) waiting) u (pick .inside) (eq-eqb (rank u) waiting (pick .waits))
       (ne-eqb (rank′ u) waiting (λ e. omega (arith, put .same, few)))
       (λ v e. ap (λ (z : ℕ). eqb z waiting) (sym (put .other v e))) in
       omega (arith, fewer, inv .count)

@@ -10,8 +10,9 @@ use lib.Dec.{ltb}
 use lib.ListN.{length, getD, set}
 use lib.Seq.{getD-set-same, getD-set-other}
 use borrow.Author.Tests.{ltb-true, ltb-false}
+use Rattle.definitions.specs.Basics.{put}
 use Rattle.definitions.specs.Step.{Arrival}
-use Rattle.definitions.proofs.Options.{none-some, some-same, equal-or-not}
+use Rattle.definitions.proofs.Options.{none-some, some-same, equal-or-not, put-same, put-other}
 use Rattle.search.specs.Parts.{at, Labels, labels, storedIf, Change, stays, better, Relaxed}
 
 -- g is f but for w at place v
@@ -22,6 +23,10 @@ pub record Put (f g : ℕ → ℕ) (v w : ℕ) : Type 0 where
 -- a store
 pub put-set : (words : List ℕ) (v w : ℕ) → v < length words → Put (at words) (at (set words v w)) v w
 put-set words v w h = record { same = getD-set-same words v w 0 h; other = λ i e. getD-set-other words v i w 0 e }
+
+-- and a function made so
+pub put-put : (f : ℕ → ℕ) (v w : ℕ) → Put f (put f v w) v w
+put-put f v w = record { same = put-same f v w; other = λ i e. put-other f v w i e }
 
 -- before the first move
 pub relaxed-none : (row : ℕ → Option Arrival) (u : ℕ) (old : Labels) → Relaxed row u 0 old old

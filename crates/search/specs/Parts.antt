@@ -1,4 +1,4 @@
--- What the parts of the search do to the three lists of words, each seen as a function from places to words.
+-- What the parts of the search do to the three lists of words and to the list of the reached nodes, each seen as a function from places to words.
 use mathlib.Core.Path.{_≡_}
 use mathlib.Core.Bool.{Bool, cond}
 use mathlib.Core.Option.{Option, some}
@@ -8,10 +8,6 @@ use lib.ListN.{length, getD, set}
 use Rattle.definitions.specs.Limits.{nodes, commands, absent}
 use Rattle.definitions.specs.Step.{Arrival}
 use Rattle.search.specs.Search.{largestMove, unreached, rowMove}
-
--- the rank of a node that is not settled
-abbrev pub waiting : ℕ
-waiting = 65535
 
 -- the words of a list, by their place
 abbrev pub at : List ℕ → ℕ → ℕ
@@ -48,17 +44,43 @@ pub record Filled (k source : ℕ) (old new : Labels) : Type 0 where
   pub blank : Blank k source new
   pub rest : (v : ℕ) → k ≤ v → Alike old new v
 
--- each of the k nodes waits
-pub record Unsettled (k : ℕ) (rank : List ℕ) : Type 0 where
-  pub room : k ≤ length rank
-  pub waits : (v : ℕ) → v < k → getD rank v 0 ≡ waiting
+-- the first count places of the list hold reached nodes, each once
+pub record Listing (dist order : ℕ → ℕ) (count : ℕ) : Type 0 where
+  pub range : (i : ℕ) → i < count → order i < nodes
+  pub reached : (i : ℕ) → i < count → dist (order i) < unreached
+  pub once : (i j : ℕ) → i < count → j < count → order i ≡ order j → i ≡ j
 
--- r is a reached node that is not settled, none of those nearer; or it is k, and none of them is reached
-pub record Picked (k : ℕ) (dist rank : ℕ → ℕ) (r : ℕ) : Type 0 where
-  pub waits : r < k → rank r ≡ waiting
-  pub reached : r < k → dist r < unreached
-  pub least : r < k → (v : ℕ) → v < k → rank v ≡ waiting → dist r ≤ dist v
-  pub over : k ≤ r → (v : ℕ) → v < k → rank v ≡ waiting → unreached ≤ dist v
+-- the list goes on with the nodes that came to be reached, and with no others
+pub record Grown (dist dist′ order order′ : ℕ → ℕ) (count count′ : ℕ) : Type 0 where
+  pub more : count ≤ count′
+  pub kept : (i : ℕ) → i < count → order′ i ≡ order i
+  pub fresh : (i : ℕ) → count ≤ i → i < count′ → unreached ≤ dist (order′ i)
+  pub all : (v : ℕ) → unreached ≤ dist v → dist′ v < unreached → (i : ℕ) × (i < count′) × (order′ i ≡ v)
+
+-- what picking asks: there are places n to count − 1, and the nodes listed have a distance
+pub record Places (n count : ℕ) (order dist : List ℕ) : Type 0 where
+  pub some-wait : n < count
+  pub few : count ≤ length order
+  pub inside : (i : ℕ) → i < count → getD order i 0 < length dist
+
+-- no node at places n to count − 1 is nearer than the one at place r
+pub record Nearest (dist order : ℕ → ℕ) (n count r : ℕ) : Type 0 where
+  pub from : n ≤ r
+  pub below : r < count
+  pub least : (i : ℕ) → n ≤ i → i < count → dist (order r) ≤ dist (order i)
+
+-- places a and b are exchanged
+pub record Swapped (order order′ : ℕ → ℕ) (a b : ℕ) : Type 0 where
+  pub first : order′ a ≡ order b
+  pub second : order′ b ≡ order a
+  pub other : (i : ℕ) → (i ≡ a → ⊥) → (i ≡ b → ⊥) → order′ i ≡ order i
+
+-- r, a nearest node of places n to count − 1, has changed places with the node at place n
+pub record Brought (dist order order′ : ℕ → ℕ) (n count r : ℕ) : Type 0 where
+  pub place : ℕ
+  pub nearest : Nearest dist order n count place
+  pub node : r ≡ order place
+  pub swapped : Swapped order order′ n place
 
 -- What relaxing does to the words of node v: nothing, or a move of u leads to v at less than before, which the words now say.
 pub data Change (row : ℕ → Option Arrival) (u : ℕ) (old new : Labels) (v : ℕ) : Type 0 where
@@ -72,12 +94,14 @@ pub record Relaxed (row : ℕ → Option Arrival) (u n : ℕ) (old new : Labels)
   pub met : (x : ℕ) (b : Arrival) → x < n → row x ≡ some b → new .dist (b .node) ≤ old .dist u + b .cost
   pub each : (v : ℕ) → Change row u old new v
 
--- what relaxing asks: row u of the tables is there, u is near, and the moves of u lead to places in the lists and cost no more than the largest
+-- what relaxing asks: row u of the tables is there, u is near, and the moves of u lead to one of the 256 nodes, with places in the lists, and cost
+-- no more than the largest
 pub record Row (u : ℕ) (target price dist before by : List ℕ) : Type 0 where
   pub small : u < nodes
   pub room : u < length dist
   pub near : getD dist u 0 ≤ nodes * largestMove
   pub targets : commands * u + commands ≤ length target
   pub prices : commands * u + commands ≤ length price
+  pub range : (x : ℕ) (b : Arrival) → rowMove target price u x ≡ some b → b .node < nodes
   pub inside : (x : ℕ) (b : Arrival) → rowMove target price u x ≡ some b → (b .node < length dist) × (b .node < length before) × (b .node < length by)
   pub cheap : (x : ℕ) (b : Arrival) → rowMove target price u x ≡ some b → b .cost ≤ largestMove

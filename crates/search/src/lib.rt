@@ -1,12 +1,13 @@
-// Least costs from one source over at most 256 nodes with 16 moves each, given as two tables (Dijkstra's search). A node waits until it is
-// settled, the nearest first; it is settled before its moves are relaxed.
+// Least costs from one source over at most 256 nodes with 16 moves each, given as two tables (Dijkstra's search). Nodes are settled one after
+// the other, the nearest first. The reached nodes stand in a list, each once: the first n are settled, in their order, and the others wait.
 ghost use mathlib.Core.Path.{_≡_};
 ghost use Prim.Native.Nat.{_+_, _*_, _≤_, _<_};
-ghost use lib.Dec.{ltb};
+ghost use mathlib.Core.Bool.{cond};
+ghost use lib.Dec.{ltb, leb};
 ghost use lib.ListN.{length, getD};
 ghost use Rattle.definitions.specs.Limits.{nodes, commands};
-ghost use Rattle.search.specs.Search.{rowMove, Tables, Room, Searched};
-ghost use Rattle.search.specs.Parts.{at, labels, storedIf, Blank, Filled, Picked, Relaxed, Row, Unsettled};
+ghost use Rattle.search.specs.Search.{unreached, rowMove, Tables, Room, Searched};
+ghost use Rattle.search.specs.Parts.{at, labels, storedIf, Blank, Filled, Relaxed, Row, Listing, Grown, Nearest, Brought, Places};
 
 // The word for a node or a command that is not there, and for a distance that is not there.
 pub const ABSENT: u32 = 65535;
@@ -15,9 +16,6 @@ pub const UNREACHED: u64 = 18446744073709551615;
 
 // The largest cost of a move.
 pub const LARGEST: u64 = 16776960;
-
-// The rank of a node that is not settled.
-const WAITING: u32 = 65535;
 
 // The word at place i of a table.
 fn word(table: &[u32], i: usize) -> u32
@@ -43,25 +41,55 @@ fn fill(k: usize, source: usize, dist: &mut [u64], before: &mut [u32], by: &mut 
     dist[source] = 0;
 }
 
-// The nearest node that waits, or k where none of them is reached.
-fn pick(k: usize, dist: &[u64], rank: &[u32]) -> usize
-    requires { ⌜ (k ≤ length (now dist)) × (k ≤ length (now rank)) ⌝ }
-    ensures { λ r. ⌜ Picked k (at (now (dist .entry))) (at (now (rank .entry))) r ⌝ }
+// The distance of the node at place i of the list.
+fn distance(order: &[u32], dist: &[u64], i: usize) -> u64
+    requires { ⌜ (i < length (now order)) × (getD (now order) i 0 < length (now dist)) ⌝ }
+    ensures { λ r. ⌜ r ≡ at (now (dist .entry)) (at (now (order .entry)) i) ⌝ }
 {
-    let mut best = k;
-    let mut least = UNREACHED;
-    let mut v = 0usize;
-    while v < k {
-        if rank[v] == WAITING {
-            let d = dist[v];
-            if d < least {
-                best = v;
-                least = d;
-            }
+    dist[order[i] as usize]
+}
+
+// The place of a nearest node among places n to count - 1 of the list.
+fn pick(order: &[u32], n: usize, count: usize, dist: &[u64]) -> usize
+    requires { ⌜ Places n count (now order) (now dist) ⌝ }
+    ensures { λ r. ⌜ Nearest (at (now (dist .entry))) (at (now (order .entry))) n count r ⌝ }
+{
+    let mut best = n;
+    let mut least = distance(order, dist, n);
+    let mut i = n + 1;
+    while i < count {
+        let d = distance(order, dist, i);
+        if d < least {
+            best = i;
+            least = d;
         }
-        v += 1;
+        i += 1;
     }
     best
+}
+
+// Brings a nearest node of places n to count - 1 to place n, and gives it.
+fn bring(order: &mut [u32], n: usize, count: usize, dist: &[u64]) -> usize
+    requires { ⌜ Places n count (now order) (now dist) ⌝ }
+    ensures { λ r. ⌜ Brought (at (now (dist .entry))) (at (now (order .entry))) (at (now (order .exit))) n count r ⌝ }
+{
+    let i = pick(order, n, count, dist);
+    let u = word(order, i);
+    order[i] = order[n];
+    order[n] = u;
+    u as usize
+}
+
+// Lists node v, which has distance d, where it was not reached; gives how many nodes are listed.
+fn list(order: &mut [u32], count: usize, v: u32, d: u64) -> usize
+    requires { ⌜ (nodes ≤ length (now order)) × (unreached ≤ d → count < nodes) ⌝ }
+    ensures { λ r. ⌜ (now (order .exit) ≡ storedIf (leb unreached d) (now (order .entry)) count v) × (r ≡ cond (leb unreached d) (count + 1) count) ⌝ }
+{
+    if d < UNREACHED {
+        return count;
+    }
+    order[count] = v;
+    count + 1
 }
 
 // Names command x of node u for node v where that is nearer.
@@ -78,7 +106,7 @@ fn relax(u: u32, x: u32, v: usize, d: u64, dist: &mut [u64], before: &mut [u32],
     }
 }
 
-// Relaxes the moves of node u.
+// Relaxes the moves of node u and lists the nodes that are reached by them; gives how many nodes are listed.
 fn relax_all(
     u: usize,
     target: &[u32],
@@ -86,18 +114,26 @@ fn relax_all(
     dist: &mut [u64],
     before: &mut [u32],
     by: &mut [u32],
-)
-    requires { ⌜ Row u (now target) (now price) (now dist) (now before) (now by) ⌝ }
-    ensures { λ _. ⌜ Relaxed (rowMove (now (target .entry)) (now (price .entry)) u) u commands
+    order: &mut [u32],
+    count: usize,
+) -> usize
+    requires { ⌜ Row u (now target) (now price) (now dist) (now before) (now by)
+        × Listing (at (now dist)) (at (now order)) count
+        × (nodes ≤ length (now order)) ⌝ }
+    ensures { λ r. ⌜ Relaxed (rowMove (now (target .entry)) (now (price .entry)) u) u commands
         (labels (now (dist .entry)) (now (before .entry)) (now (by .entry)))
-        (labels (now (dist .exit)) (now (before .exit)) (now (by .exit))) ⌝ }
+        (labels (now (dist .exit)) (now (before .exit)) (now (by .exit)))
+        × Listing (at (now (dist .exit))) (at (now (order .exit))) r
+        × Grown (at (now (dist .entry))) (at (now (dist .exit))) (at (now (order .entry))) (at (now (order .exit))) count r ⌝ }
 {
     let here = dist[u];
+    let mut listed = count;
     let mut x = 0usize;
     while x < 16 {
         let i = 16 * u + x;
         let v = word(target, i);
         if v != ABSENT {
+            listed = list(order, listed, v, dist[v as usize]);
             relax(
                 u as u32,
                 x as u32,
@@ -110,9 +146,10 @@ fn relax_all(
         }
         x += 1;
     }
+    listed
 }
 
-// Finds the least costs in blank lists, with a rank for each node: how many were settled before it.
+// Finds the least costs in blank lists. The list of the reached nodes begins with the source.
 fn settle(
     k: usize,
     source: usize,
@@ -121,22 +158,20 @@ fn settle(
     dist: &mut [u64],
     before: &mut [u32],
     by: &mut [u32],
-    rank: &mut [u32],
 )
     requires { ⌜ Tables k source (now target) (now price)
         × Room k (now dist) (now before) (now by)
-        × Blank k source (labels (now dist) (now before) (now by))
-        × Unsettled k (now rank) ⌝ }
+        × Blank k source (labels (now dist) (now before) (now by)) ⌝ }
     ensures { λ _. ⌜ Searched k source (now (target .entry)) (now (price .entry)) (now (dist .entry)) (now (before .entry)) (now (by .entry))
         (now (dist .exit)) (now (before .exit)) (now (by .exit)) ⌝ }
 {
-    let mut n = 0u32;
-    let mut u = source;
-    while u < k {
-        rank[u] = n;
-        relax_all(u, target, price, dist, before, by);
+    let mut order = [source as u32; 256];
+    let mut count = 1usize;
+    let mut n = 0usize;
+    while n < count {
+        let u = bring(&mut order, n, count, dist);
+        count = relax_all(u, target, price, dist, before, by, &mut order, count);
         n += 1;
-        u = pick(k, dist, rank);
     }
 }
 
@@ -157,6 +192,5 @@ pub fn search(
         (now (dist .exit)) (now (before .exit)) (now (by .exit)) ⌝ }
 {
     fill(k, source, dist, before, by);
-    let mut rank = [WAITING; 256];
-    settle(k, source, target, price, dist, before, by, &mut rank);
+    settle(k, source, target, price, dist, before, by);
 }

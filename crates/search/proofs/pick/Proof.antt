@@ -1,37 +1,39 @@
--- `search::pick` meets its contract: best is the nearest of the nodes passed that wait. Assumes nothing.
-use mathlib.Core.Path.{_≡_, sym, subst₂}
-use Prim.Native.Nat.{ℕ, _+_, _≤_, _<_, _-_}
-use native.Mathlib.Omega.{arith}
+-- `search::pick` meets its contract: best is the place of a nearest node among those passed. Assumes nothing.
+use mathlib.Core.Path.{_≡_, sym, subst, subst₂}
 use mathlib.Core.Logic.{⊎-elim}
+use Prim.Native.Nat.{ℕ, _+_, _≤_, _-_}
+use native.Mathlib.Omega.{arith}
 use denote.Ref.{now}
-use Rattle.search.specs.Parts.{at}
-use Rattle.search.proofs.Picking.{Best, best-none, best-kept, best-better, best-picked}
+use Rattle.search.specs.Parts.{at, Nearest}
+use Rattle.search.proofs.Picking.{Best, best-first, best-kept, best-better}
 use Rattle.search.proofs.pick.Statement.{statement}
 use Rattle.search.proofs.pick.Tie as tie
 
 abbrev Inv-loop : tie.InvT-loop
-Inv-loop k dist rank best₀ least₀ v₀ best least v = (v ≤ k) × Best k (at dist) (at rank) v best least
+Inv-loop order n count dist best₀ least₀ i₀ best least i = (i ≤ count) × Best (at dist) (at order) n i best least
 
 abbrev μ-loop : tie.MeasureT-loop
-μ-loop k dist rank best₀ least₀ v₀ best least v = k - v
+μ-loop order n count dist best₀ least₀ i₀ best least i = count - i
+
+distance-requires : tie.Need-distance-requires Inv-loop μ-loop
+distance-requires c κs =
+    let p = c .before .before .pre in
+    (omega (arith, p .some-wait, p .few), p .inside _ (p .some-wait))
+
+add-i : tie.Need-add-i Inv-loop μ-loop
+add-i c = omega (arith, c .before .before .before .pre .some-wait)
 
 loop-holds : tie.Need-loop-holds Inv-loop μ-loop
-loop-holds c = (omega arith, best-none _ _ _)
+loop-holds c = (omega (arith, c .before .before .before .pre .some-wait), best-first _ _ _ (c .distance .ensures))
 
-mul-if1 : tie.Need-mul-if1 Inv-loop μ-loop
-mul-if1 c = omega arith
+distance-requires-2 : tie.Need-distance-requires-2 Inv-loop μ-loop
+distance-requires-2 c κs =
+    let p = c .before .before .before .before .before .pre in
+    let inside = c .loop-test .taken in
+    (omega (arith, p .few), p .inside _ inside)
 
-shared-slice-read-if1 : tie.Need-shared-slice-read-if1 Inv-loop μ-loop
-shared-slice-read-if1 c = omega arith
-
-mul-d : tie.Need-mul-d Inv-loop μ-loop
-mul-d c = omega arith
-
-shared-slice-read-d : tie.Need-shared-slice-read-d Inv-loop μ-loop
-shared-slice-read-d c = omega arith
-
-add-v : tie.Need-add-v Inv-loop μ-loop
-add-v c = omega arith
+add-i-2 : tie.Need-add-i-2 Inv-loop μ-loop
+add-i-2 c = omega (arith, c .before .before .loop-test .taken)
 
 loop-less : tie.Need-loop-less Inv-loop μ-loop
 loop-less c = omega arith
@@ -39,22 +41,22 @@ loop-less c = omega arith
 loop-again : tie.Need-loop-again Inv-loop μ-loop
 loop-again c =
     let l = c .before .before .before in
-    let a = l .before .args in
-    let inv = l .loop .inv .1 in
-    let inside : l .loop .v < a .k = omega arith in
-    let to : (best least : ℕ) → c .if1 .best ≡ best → c .if1 .least ≡ least
-    → Best (a .k) (at (now (a .dist))) (at (now (a .rank))) (l .loop .v + 1) best least
-    → Best (a .k) (at (now (a .dist))) (at (now (a .rank))) (l .loop .v + 1) (c .if1 .best) (c .if1 .least) =
-    λ best least p q b. subst₂ (Best (a .k) (at (now (a .dist))) (at (now (a .rank))) (l .loop .v + 1)) (sym p) (sym q) b in (
-      omega arith,
-      ⊎-elim (λ w. to _ _ (w .3) (w .4) (best-better inv inside (w .0 .taken) (w .2 .taken)))
-          (⊎-elim (λ w. to _ _ (w .3) (w .4) (best-kept inv (λ waits. w .2 .left)))
-          (λ w. to _ _ (w .1) (w .2) (best-kept inv (λ waits. absurd (w .0 .left waits)))))
+    let a = l .before .before .before .before .args in
+    let b = l .loop .inv .1 in
+    let d = c .before .distance2 .ensures in (
+      omega (arith, c .before .before .loop-test .taken),
+      ⊎-elim
+          (λ w. subst₂ (Best (at (now (a .dist))) (at (now (a .order))) (a .n) (l .loop .i + 1)) (sym (w .1)) (sym (w .2)) (best-better b d (w .0 .taken)))
+          (λ w. subst₂ (Best (at (now (a .dist))) (at (now (a .order))) (a .n) (l .loop .i + 1)) (sym (w .1)) (sym (w .2)) (best-kept b d (w .0 .left)))
           (c .if1 .came),
     )
 
 returns : tie.Need-returns Inv-loop μ-loop
-returns c = best-picked (omega arith) (c .before .loop .inv .1)
+returns c =
+    let l = c .before in
+    let a = l .before .before .before .before .args in
+    let all : l .loop .i ≡ a .count = omega (arith, c .loop-test .left, l .loop .inv .0) in
+    subst (λ (i : ℕ). Nearest (at (now (a .dist))) (at (now (a .order))) (a .n) i (l .loop .best)) all (l .loop .inv .1 .near)
 
 pub pick-spec : {M : Type 1} → statement M
 pick-spec =
@@ -62,12 +64,11 @@ pick-spec =
     (tie.spec
     Inv-loop
     μ-loop
+    distance-requires
+    add-i
     loop-holds
-    mul-if1
-    shared-slice-read-if1
-    mul-d
-    shared-slice-read-d
-    add-v
+    distance-requires-2
+    add-i-2
     loop-less
     loop-again
     returns)

@@ -1,8 +1,5 @@
--- `search::search` meets its contract: the lists are filled, every rank says that its node waits, and the rest is `settle`'s. Assumes nothing.
-use native.Mathlib.Omega.{arith}
-use lib.ListN.{getD-replicate}
+-- `search::search` meets its contract: the lists are filled, and the rest is `settle`'s. Assumes nothing.
 use denote.Ref.{now}
-use Rattle.search.specs.Parts.{waiting}
 use Rattle.search.proofs.Turning.{filled-searched}
 use borrow.Author.Needs.{needs}
 use Rattle.search.proofs.search.Statement.{statement}
@@ -11,19 +8,8 @@ use Rattle.search.proofs.search.Tie as tie
 fill-requires : tie.Need-fill-requires
 fill-requires c κs = search needs
 
-slice-aggregate-settle : tie.Need-slice-aggregate-settle
-slice-aggregate-settle c = search needs
-
 settle-requires : tie.Need-settle-requires
-settle-requires c κs =
-    let f = c .before .before .before .before .before .before .before .before .before .before in
-    let p = f .before .before .before .before .before .before .before .before .before .pre in
-    let kept = f .fill .kept .1 .1 in (
-      p .0,
-      record { dist-room = omega (arith, kept .0, p .1); before-room = omega (arith, kept .1 .0, p .1); by-room = omega (arith, kept .1 .1 .0, p .1) },
-      f .fill .ensures .blank,
-      record { room = p .0 .small; waits = λ v h. getD-replicate 256 v waiting 0 (omega (arith, p .0 .small)) },
-    )
+settle-requires c κs = search needs
 
 same-length : tie.Need-same-length
 same-length c = search needs
@@ -36,8 +22,8 @@ same-length-3 c = search needs
 
 returns : tie.Need-returns
 returns c =
-    let s = c .before .before .before .before .before .before .before in
-    let f = s .before .before .before .before .before .before .before .before .before .before .before in
+    let s = c .before .before .before .before .before .before in
+    let f = s .before .before .before .before .before .before .before .before .before .before in
     let a = f .before .before .before .before .before .before .before .before .before .args in
     let mid = f .fill .last .1 .1 in
     filled-searched (now (a .dist)) (now (a .before)) (now (a .by)) (mid .0) (mid .1 .0) (mid .1 .1 .0) (f .fill .ensures) (s .settle .ensures)
@@ -45,11 +31,4 @@ returns c =
 pub search-spec : {M : Type 1} → statement M
 search-spec =
     tie.close
-    (tie.spec
-    fill-requires
-    slice-aggregate-settle
-    settle-requires
-    same-length
-    same-length-2
-    same-length-3
-    returns)
+    (tie.spec fill-requires settle-requires same-length same-length-2 same-length-3 returns)
