@@ -14,7 +14,7 @@
 ** is no global state: calls on different memory may run on different threads at the same time, and so may calls that only read the
 ** same memory. A list passes as a pointer and its length, counted in elements. Pointers must not be null, also where a length is 0; they
 ** must be aligned for their type; and memory that a call writes must not overlap any other memory lent to that call. A call needs less
-** than 32 kilobytes of stack, and the functions memcpy and memset.
+** than 128 kilobytes of stack, and the functions memcpy and memset.
 **
 ** ANSWERS. Each call returns 0 or the number of a refusal (HIMM_WRONG_LENGTH and the others below). On a refusal nothing that was lent
 ** has changed, buffers and out-parameters included. Only himm_load differs: it always stores its two counts, and the commands taken

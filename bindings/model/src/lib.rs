@@ -1,5 +1,6 @@
-//! A second implementation of the planner, written from document 01 alone and sharing nothing with the proved library. The tests of the
-//! bindings and the benchmark compare the library with it. It is written to be read, not to be fast; only `flat` is meant to be fast.
+//! A second implementation of the planner, written from document 01, with the readings of docs/DECISIONS.md where document 01 leaves a
+//! choice. It shares no code with the proved library. The tests of the bindings and the benchmark compare the library with it. It is
+//! written to be read, not to be fast; only `flat` is meant to be fast.
 
 pub mod book;
 pub mod calls;

@@ -12,7 +12,7 @@ impl Random {
         Random(seed.wrapping_mul(0x9e37_79b9_7f4a_7c15))
     }
 
-    pub fn next(&mut self) -> u64 {
+    pub fn word(&mut self) -> u64 {
         self.0 = self.0.wrapping_add(0x9e37_79b9_7f4a_7c15);
         let mut z = self.0;
         z = (z ^ (z >> 30)).wrapping_mul(0xbf58_476d_1ce4_e5b9);
@@ -22,7 +22,7 @@ impl Random {
 
     /// A number under a limit that is not 0.
     pub fn below(&mut self, limit: usize) -> usize {
-        (self.next() % limit as u64) as usize
+        (self.word() % limit as u64) as usize
     }
 
     pub fn chance(&mut self, percent: usize) -> bool {
@@ -42,10 +42,11 @@ impl Random {
     }
 }
 
-/// Where new machines are put: below the lowest machine, below the root, or anywhere.
+/// Where new machines are put: below the lowest machine, the same with about as many nodes in each, below the root, or anywhere.
 #[derive(Clone, Copy, Debug, PartialEq, Eq)]
 pub enum Growth {
     Chain,
+    EvenChain,
     Wide,
     Any,
 }
@@ -127,7 +128,7 @@ pub fn book(random: &mut Random, shape: &Shape) -> Vec<Command> {
 fn grow(random: &mut Random, shape: &Shape, tree: &Tree, numbers: &mut Numbers) -> Option<Command> {
     let node = numbers.nodes.pop()?;
     let holders = holders(shape, tree);
-    let must_refine = numbers.nodes.len() < numbers.machines.len();
+    let must_refine = shape.growth == Growth::EvenChain || numbers.nodes.len() < numbers.machines.len();
     let share = 100 * numbers.machines.len() / (numbers.nodes.len() + 1);
     if numbers.machines.is_empty() || holders.is_empty() || !(must_refine || random.chance(share)) {
         return Some(Command::Add { machine: owner_of_new(random, shape, tree), node });
@@ -144,7 +145,7 @@ fn grow(random: &mut Random, shape: &Shape, tree: &Tree, numbers: &mut Numbers) 
 fn holders(shape: &Shape, tree: &Tree) -> Vec<usize> {
     let lowest = tree.machines_in_use().iter().filter_map(|&m| tree.level(m)).max();
     let wanted = match shape.growth {
-        Growth::Chain => lowest,
+        Growth::Chain | Growth::EvenChain => lowest,
         Growth::Wide => Some(1),
         Growth::Any => None,
     };
@@ -154,10 +155,12 @@ fn holders(shape: &Shape, tree: &Tree) -> Vec<usize> {
 }
 
 fn owner_of_new(random: &mut Random, shape: &Shape, tree: &Tree) -> usize {
-    if shape.growth == Growth::Wide && random.chance(70) {
-        return tree.root;
+    let machines = tree.machines_in_use();
+    match shape.growth {
+        Growth::Wide if random.chance(70) => tree.root,
+        Growth::EvenChain => *machines.iter().min_by_key(|&&m| tree.nodes_of(m).len()).expect("a machine"),
+        _ => random.pick(&machines),
     }
-    random.pick(&tree.machines_in_use())
 }
 
 /// New start nodes for some machines.
@@ -208,7 +211,9 @@ pub fn edit(random: &mut Random, tree: &Tree) -> Command {
         1..=6 => Command::Add { machine, node: new_node(random, tree) },
         7..=12 => Command::Refine { node, machine: new_machine(random, tree), start: new_node(random, tree) },
         13..=15 => Command::Remove { node },
-        16..=29 => Command::Arrow { node, command: some_command(random), target: fellow(random, tree, node), cost: cost(random, Costs::Few) },
+        16..=29 => {
+            Command::Arrow { node, command: some_command(random), target: fellow(random, tree, node), cost: cost(random, Costs::Few) }
+        }
         30..=32 => Command::Clear { node, command: some_command(random) },
         33..=35 => Command::Start { node },
         36..=37 => Command::Crown { machine: new_machine(random, tree), node: new_node(random, tree) },

@@ -49,9 +49,9 @@ pub fn exits(tree: &Tree, m: usize) -> Exits {
     while let Some(i) = (0..open.len()).min_by_key(|&i| costs[open[i]]) {
         let s = open.swap_remove(i);
         let so_far = costs[s].expect("a reached state");
-        for x in 0..COMMANDS {
+        for (x, exit) in exits.iter_mut().enumerate() {
             match tree.step_inside(m, s, x) {
-                None => exits[x] = least(exits[x], so_far),
+                None => *exit = least(*exit, so_far),
                 Some((t, cost)) => reach(&mut costs, &mut open, t, so_far + cost),
             }
         }

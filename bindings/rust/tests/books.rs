@@ -84,7 +84,8 @@ fn chains_of_eight_levels() {
         let mut random = Random::new(9000 + seed);
         let costs = random.pick(&[Costs::Zero, Costs::Few, Costs::Any, Costs::Largest]);
         let (filled, loops) = (random.pick(&[5, 12, 25]), random.pick(&[0, 40]));
-        let shape = Shape { growth: Growth::Chain, machines: 8, nodes: 48 + random.below(200), commands: COMMANDS, filled, loops, costs };
+        let growth = random.pick(&[Growth::Chain, Growth::EvenChain]);
+        let shape = Shape { growth, machines: 8, nodes: 48 + random.below(200), commands: COMMANDS, filled, loops, costs };
         compare(&Holding::random(&mut random, &shape), &mut random, 25);
     }
 }
@@ -179,4 +180,18 @@ fn long_lists() {
             holding.compare_choice(&view, 0, 1, first, second);
         }
     }
+}
+
+/// Eight levels of refined start nodes, planned through in a thread with as much stack as the header asks for.
+#[test]
+fn a_small_stack() {
+    let chain: Vec<u8> = (0..7).flat_map(|k| [0x12, 0, k, k + 1, 0, k + 1]).collect();
+    let through = [0x11, 0, 0, 20, 0x11, 0, 0, 30, 0x14, 0, 30, 0, 0, 0, 0, 1, 0x14, 0, 0, 1, 0, 20, 0, 1, himm::REFRESH];
+    let calls = move || {
+        let mut holding = Holding::fresh();
+        himm::load(&mut holding.book, &mut holding.sheet, &[&chain[..], &through].concat()).result?;
+        himm::plan(&holding.book, &holding.sheet, 30, 20, &mut vec![0; himm::PLAN_BYTES]).map(|plan| plan.commands.to_vec())
+    };
+    let thread = std::thread::Builder::new().stack_size(128 * 1024).spawn(calls).expect("a thread");
+    assert_eq!(thread.join().expect("an end"), Ok(vec![0, 1]));
 }

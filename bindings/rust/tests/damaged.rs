@@ -53,7 +53,7 @@ fn wrong_opening(mut holding: Holding) {
 /// Words that a field may be given instead of its own.
 fn words(random: &mut Random, old: u32) -> Vec<u32> {
     let mut all = vec![0, 65535, u32::MAX, old ^ 1, old.wrapping_add(65536), old.wrapping_add(1), old.wrapping_sub(1)];
-    all.extend([random.below(NODES) as u32, (random.below(NODES) as u32) << 16, random.next() as u32]);
+    all.extend([random.below(NODES) as u32, (random.below(NODES) as u32) << 16, random.word() as u32]);
     all.retain(|&word| word != old);
     all
 }

@@ -55,7 +55,7 @@ impl Holding {
 
     pub fn view(&self) -> View {
         let book = calls::read_book(&self.book);
-        let exits = book.as_ref().map_or(vec![], |tree| sheet::all_exits(tree));
+        let exits = book.as_ref().map_or(vec![], sheet::all_exits);
         let flat = book.as_ref().ok().map(|_| Flat::of(&self.book));
         View { whole: calls::read_holding(&self.book, &self.sheet), book, exits, flat }
     }
