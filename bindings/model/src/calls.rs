@@ -1,0 +1,82 @@
+//! The public calls: refusals in document 01's order, then what the call gives. `Err` holds the refusal's number.
+
+use crate::flat::Flat;
+use crate::sheet::{self, is_stale, Exits};
+use crate::stream::{Row, Station};
+use crate::tree::Tree;
+use crate::{book, choose, write, BOOK_WORDS, COMMANDS, MACHINES, NODES, SHEET_WORDS};
+
+/// Refuses where the test does not hold.
+fn ask(number: u32, holds: bool) -> Result<(), u32> {
+    if holds {
+        Ok(())
+    } else {
+        Err(number)
+    }
+}
+
+/// The tree of a book: refuses 1, 2.
+pub fn read_book(words: &[u32]) -> Result<Tree, u32> {
+    ask(1, words.len() == BOOK_WORDS)?;
+    book::decode(words).ok_or(2)
+}
+
+/// The tree of a book with its sheet: refuses 1, 2, 3.
+pub fn read_holding(book: &[u32], sheet: &[u32]) -> Result<Tree, u32> {
+    ask(1, book.len() == BOOK_WORDS && sheet.len() == SHEET_WORDS)?;
+    let tree = book::decode(book).ok_or(2u32)?;
+    ask(3, sheet::is_true(&tree, sheet))?;
+    Ok(tree)
+}
+
+/// A true holding as a station whose rows are kept or stale.
+pub fn station(tree: Tree, sheet: &[u32]) -> Station {
+    let rows = (0..MACHINES).map(|m| if is_stale(sheet, m) { Row::Stale } else { Row::Kept }).collect();
+    Station { tree, rows }
+}
+
+/// Exit of a true holding: refuses 6, 7, 13, 16.
+pub fn exit(tree: &Tree, sheet: &[u32], exits: &[Exits], machine: u32, command: u32) -> Result<u32, u32> {
+    let (m, x) = (machine as usize, command as usize);
+    ask(6, m < MACHINES && x < COMMANDS)?;
+    ask(7, tree.machines[m].is_some())?;
+    ask(13, !is_stale(sheet, m))?;
+    exits[m][x].ok_or(16)
+}
+
+/// Two states: refuses 6, 7, 14.
+fn two_states(tree: &Tree, from: u32, to: u32) -> Result<(usize, usize), u32> {
+    let both = [from as usize, to as usize];
+    ask(6, both.iter().all(|&n| n < NODES))?;
+    ask(7, both.iter().all(|&n| tree.nodes[n].is_some()))?;
+    ask(14, both.iter().all(|&n| tree.is_state(n)))?;
+    Ok((both[0], both[1]))
+}
+
+/// Step: refuses 6, 7, 14, 17.
+pub fn step(tree: &Tree, state: u32, command: u32) -> Result<(u32, u32), u32> {
+    ask(6, (state as usize) < NODES && (command as usize) < COMMANDS)?;
+    let (s, _) = two_states(tree, state, state)?;
+    tree.step(s, command as usize).map(|(next, cost)| (next as u32, cost)).ok_or(17)
+}
+
+/// The cost of a plan over a true holding: refuses 13, 6, 7, 14, 15, 16.
+pub fn plan(tree: &Tree, sheet: &[u32], flat: &Flat, from: u32, to: u32, room: usize) -> Result<u32, u32> {
+    ask(13, (0..MACHINES).all(|m| !is_stale(sheet, m)))?;
+    let (a, b) = two_states(tree, from, to)?;
+    ask(15, room + 1 >= tree.states().len())?;
+    flat.costs_from(a)[b].ok_or(16)
+}
+
+/// Write: refuses 15.
+pub fn write(tree: &Tree, room: usize) -> Result<Vec<u8>, u32> {
+    let stream = write::stream(tree);
+    ask(15, room >= stream.len())?;
+    Ok(stream)
+}
+
+/// Choose: refuses 6, 7, 14, 18.
+pub fn choose(tree: &Tree, from: u32, to: u32, first: &[u8], second: &[u8]) -> Result<(u32, usize), u32> {
+    let (a, b) = two_states(tree, from, to)?;
+    choose::choose(tree, a, b, first, second).ok_or(18)
+}

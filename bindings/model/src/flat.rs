@@ -1,0 +1,124 @@
+//! The yardstick: a tree flattened to its states, and a binary-heap Dijkstra search over them. It trusts its book.
+
+use crate::book::{machine_at, node_at};
+use crate::{ABSENT, BLANK, COMMANDS, NODES};
+use std::cmp::Reverse;
+use std::collections::BinaryHeap;
+
+const UNSEEN: u32 = u32::MAX;
+
+/// For each state and command the next state and the cost, as target × 65,536 + cost, or `BLANK` where the station stops.
+#[derive(Clone)]
+pub struct Flat {
+    pub moves: Vec<[u32; COMMANDS]>,
+}
+
+/// A cheapest list.
+#[derive(Clone, Debug, PartialEq, Eq)]
+pub struct Way {
+    pub cost: u32,
+    pub commands: Vec<u8>,
+}
+
+impl Flat {
+    /// Flattens a well-formed book, each node once: first what entering it leads to, then the transition that each command uses.
+    pub fn of(book: &[u32]) -> Flat {
+        let entered: Vec<u32> = (0..NODES).map(|n| enter(book, n)).collect();
+        let mut flat = Flat { moves: vec![[BLANK; COMMANDS]; NODES] };
+        let mut done = [false; NODES];
+        for n in 0..NODES {
+            flat.resolve(book, &entered, &mut done, n);
+        }
+        flat
+    }
+
+    /// A node's own transitions, and for the other commands those of the node that holds its machine.
+    fn resolve(&mut self, book: &[u32], entered: &[u32], done: &mut [bool; NODES], n: usize) {
+        let owner = book[node_at(n)];
+        if done[n] || owner == ABSENT {
+            return;
+        }
+        let holder = book[machine_at(owner as usize)];
+        if holder != ABSENT {
+            self.resolve(book, entered, done, holder as usize);
+            self.moves[n] = self.moves[holder as usize];
+        }
+        for x in 0..COMMANDS {
+            let word = book[node_at(n) + 2 + x];
+            if word != BLANK {
+                self.moves[n][x] = entered[(word >> 16) as usize] << 16 | word & 0xffff;
+            }
+        }
+        done[n] = true;
+    }
+
+    pub fn step(&self, state: usize, command: usize) -> Option<(usize, u32)> {
+        let word = self.moves[state][command];
+        (word != BLANK).then_some(((word >> 16) as usize, word & 0xffff))
+    }
+
+    /// A cheapest list from one state to another.
+    pub fn search(&self, from: usize, to: usize) -> Option<Way> {
+        let mut costs = [UNSEEN; NODES];
+        let mut before = [(0u8, 0u8); NODES];
+        let mut heap = BinaryHeap::with_capacity(NODES);
+        costs[from] = 0;
+        heap.push(Reverse((0u32, from as u32)));
+        while let Some(Reverse((cost, s))) = heap.pop() {
+            let s = s as usize;
+            if s == to {
+                return Some(Way { cost, commands: list(&before, from, to) });
+            }
+            if cost == costs[s] {
+                self.relax(s, cost, &mut costs, &mut before, &mut heap);
+            }
+        }
+        None
+    }
+
+    fn relax(&self, s: usize, cost: u32, costs: &mut [u32], before: &mut [(u8, u8)], heap: &mut BinaryHeap<Reverse<(u32, u32)>>) {
+        for (x, &word) in self.moves[s].iter().enumerate() {
+            let next = (word >> 16) as usize;
+            if word != BLANK && cost + (word & 0xffff) < costs[next] {
+                costs[next] = cost + (word & 0xffff);
+                before[next] = (s as u8, x as u8);
+                heap.push(Reverse((costs[next], next as u32)));
+            }
+        }
+    }
+
+    /// The least costs from one state to every node number; `None` where there is no way.
+    pub fn costs_from(&self, from: usize) -> Vec<Option<u32>> {
+        let mut costs = [UNSEEN; NODES];
+        let mut before = [(0u8, 0u8); NODES];
+        let mut heap = BinaryHeap::with_capacity(NODES);
+        costs[from] = 0;
+        heap.push(Reverse((0u32, from as u32)));
+        while let Some(Reverse((cost, s))) = heap.pop() {
+            if cost == costs[s as usize] {
+                self.relax(s as usize, cost, &mut costs, &mut before, &mut heap);
+            }
+        }
+        costs.iter().map(|&c| (c != UNSEEN).then_some(c)).collect()
+    }
+}
+
+fn enter(book: &[u32], node: usize) -> u32 {
+    let mut n = node;
+    while book[node_at(n)] != ABSENT && book[node_at(n) + 1] != ABSENT {
+        n = book[machine_at(book[node_at(n) + 1] as usize) + 1] as usize;
+    }
+    n as u32
+}
+
+/// The commands of the names from the end back to the beginning, turned round.
+fn list(before: &[(u8, u8)], from: usize, to: usize) -> Vec<u8> {
+    let mut commands = vec![];
+    let mut at = to;
+    while at != from {
+        commands.push(before[at].1);
+        at = before[at].0 as usize;
+    }
+    commands.reverse();
+    commands
+}

@@ -1,0 +1,27 @@
+//! A second implementation of the planner, written from document 01, with the readings of docs/DECISIONS.md where document 01 leaves a
+//! choice. It shares no code with the proved library. The tests of the bindings and the benchmark compare the library with it. It is
+//! written to be read, not to be fast; only `flat` is meant to be fast.
+
+pub mod book;
+pub mod calls;
+pub mod choose;
+pub mod flat;
+pub mod random;
+pub mod sheet;
+pub mod stream;
+pub mod tree;
+pub mod write;
+
+pub const MACHINES: usize = 64;
+pub const NODES: usize = 256;
+pub const COMMANDS: usize = 16;
+pub const LEVELS: usize = 8;
+pub const BOOK_WORDS: usize = 4737;
+pub const SHEET_WORDS: usize = 2880;
+pub const STREAM_BYTES: usize = 33918;
+pub const LIST_COMMANDS: usize = 65536;
+
+/// A number that is not there.
+pub const ABSENT: u32 = 65535;
+/// A transition or a cost that is not there.
+pub const BLANK: u32 = u32::MAX;

@@ -1,0 +1,33 @@
+//! The stream of a tree.
+
+use crate::stream::Command;
+use crate::tree::Tree;
+use crate::{COMMANDS, LEVELS, NODES};
+
+/// Begin; for each level first add, then refine, both by rising node; last all transitions by node, then command.
+pub fn stream(tree: &Tree) -> Vec<u8> {
+    let mut all = vec![Command::Begin { machine: tree.root, start: tree.machine(tree.root).start }];
+    for level in 1..=LEVELS {
+        let nodes: Vec<usize> = (0..NODES).filter(|&n| at_level(tree, n, level)).collect();
+        all.extend(nodes.iter().filter(|&&n| !tree.is_start(n)).map(|&n| Command::Add { machine: tree.node(n).owner, node: n }));
+        all.extend(nodes.iter().filter_map(|&n| refine(tree, n)));
+    }
+    all.extend((0..NODES).flat_map(|n| arrows(tree, n)));
+    all.iter().flat_map(Command::bytes).collect()
+}
+
+fn at_level(tree: &Tree, n: usize, level: usize) -> bool {
+    tree.nodes[n].as_ref().is_some_and(|node| tree.level(node.owner) == Some(level))
+}
+
+fn refine(tree: &Tree, node: usize) -> Option<Command> {
+    tree.node(node).below.map(|machine| Command::Refine { node, machine, start: tree.machine(machine).start })
+}
+
+fn arrows(tree: &Tree, node: usize) -> Vec<Command> {
+    let Some(record) = &tree.nodes[node] else { return vec![] };
+    (0..COMMANDS)
+        .filter_map(|x| record.transitions[x].map(|t| (x, t)))
+        .map(|(command, t)| Command::Arrow { node, command, target: t.target, cost: t.cost as usize })
+        .collect()
+}

@@ -1,0 +1,167 @@
+//! Safe calls of Violnebula, a proved planner for hierarchical Mealy machines. What each call does, and which refusals it has in which
+//! order, is in `include/himm.h`; here lists are slices and a refusal is an error with a name.
+//!
+//! Every call is safe on any input: a list of a wrong length, a torn book and a false sheet are refused. A refused call changes nothing
+//! that was lent, but for the commands that [`load`] took before the refused one.
+//!
+//! ```
+//! let (mut book, mut sheet) = (vec![0; himm::BOOK_WORDS], vec![0; himm::SHEET_WORDS]);
+//! himm::open_ladder(&mut book, &mut sheet)?;
+//! himm::load(&mut book, &mut sheet, &[himm::REFRESH]).result?;
+//! let mut buffer = [0; himm::PLAN_BYTES];
+//! let plan = himm::plan(&book, &sheet, 1, 187, &mut buffer)?;
+//! assert_eq!(plan.cost, plan.commands.len() as u32);
+//! # Ok::<(), himm::Refusal>(())
+//! ```
+
+pub mod raw;
+mod refusal;
+
+pub use refusal::Refusal;
+
+/// Machines, nodes, commands and levels: each number is under its limit.
+pub const MACHINES: usize = 64;
+pub const NODES: usize = 256;
+pub const COMMANDS: usize = 16;
+pub const LEVELS: usize = 8;
+
+/// The words of a book and of a sheet, which are exact.
+pub const BOOK_WORDS: usize = 4737;
+pub const SHEET_WORDS: usize = 2880;
+
+/// A plan buffer and an output for a stream that are long enough for every book.
+pub const PLAN_BYTES: usize = 255;
+pub const STREAM_BYTES: usize = 33918;
+
+/// How many commands of a list [`choose`] looks at.
+pub const LIST_COMMANDS: usize = 65536;
+
+/// The opcode of refresh.
+pub const REFRESH: u8 = 0x18;
+
+/// What a stream came to: the bytes and commands taken, and how it ended.
+#[derive(Clone, Copy, Debug, PartialEq, Eq)]
+pub struct Loaded {
+    pub bytes: u64,
+    pub commands: u64,
+    pub result: Result<(), Refusal>,
+}
+
+/// The state that a command leads to, and its cost.
+#[derive(Clone, Copy, Debug, PartialEq, Eq)]
+pub struct Arrival {
+    pub state: u32,
+    pub cost: u32,
+}
+
+/// A cheapest list of commands, at the front of the lent buffer.
+#[derive(Clone, Copy, Debug, PartialEq, Eq)]
+pub struct Plan<'a> {
+    pub cost: u32,
+    pub commands: &'a [u8],
+}
+
+/// Which of the two lists was chosen.
+#[derive(Clone, Copy, Debug, PartialEq, Eq)]
+pub enum Which {
+    First,
+    Second,
+}
+
+/// The used part of the chosen list.
+#[derive(Clone, Copy, Debug, PartialEq, Eq)]
+pub struct Chosen<'a> {
+    pub which: Which,
+    pub part: &'a [u8],
+}
+
+/// Makes a book of one machine, the root 0, with its start node 0.
+pub fn open_fresh(book: &mut [u32], sheet: &mut [u32]) -> Result<(), Refusal> {
+    // SAFETY: each pointer is that of a slice, passed with the slice's length; mutable slices overlap nothing. So in every call below.
+    Refusal::check(unsafe { raw::himm_open_fresh(book.as_mut_ptr(), book.len(), sheet.as_mut_ptr(), sheet.len()) })
+}
+
+/// Makes the book of the ladder, 63 machines of three nodes each.
+pub fn open_ladder(book: &mut [u32], sheet: &mut [u32]) -> Result<(), Refusal> {
+    Refusal::check(unsafe { raw::himm_open_ladder(book.as_mut_ptr(), book.len(), sheet.as_mut_ptr(), sheet.len()) })
+}
+
+/// Does the commands of a stream up to its end or the first that is refused.
+pub fn load(book: &mut [u32], sheet: &mut [u32], stream: &[u8]) -> Loaded {
+    let (mut bytes, mut commands) = (0, 0);
+    let number = unsafe {
+        raw::himm_load(
+            book.as_mut_ptr(),
+            book.len(),
+            sheet.as_mut_ptr(),
+            sheet.len(),
+            stream.as_ptr(),
+            stream.len(),
+            &mut bytes,
+            &mut commands,
+        )
+    };
+    Loaded { bytes, commands, result: Refusal::check(number) }
+}
+
+/// The exit cost of a machine for a command.
+pub fn exit(book: &[u32], sheet: &[u32], machine: u32, command: u32) -> Result<u32, Refusal> {
+    let mut cost = 0;
+    let number = unsafe { raw::himm_exit(book.as_ptr(), book.len(), sheet.as_ptr(), sheet.len(), machine, command, &mut cost) };
+    Refusal::check(number).map(|()| cost)
+}
+
+/// The state that a command leads to, and its cost.
+pub fn step(book: &[u32], state: u32, command: u32) -> Result<Arrival, Refusal> {
+    let (mut next, mut cost) = (0, 0);
+    let number = unsafe { raw::himm_step(book.as_ptr(), book.len(), state, command, &mut next, &mut cost) };
+    Refusal::check(number).map(|()| Arrival { state: next, cost })
+}
+
+/// A cheapest list of commands from one state to another.
+pub fn plan<'a>(book: &[u32], sheet: &[u32], from: u32, to: u32, buffer: &'a mut [u8]) -> Result<Plan<'a>, Refusal> {
+    let (mut cost, mut count) = (0, 0);
+    let number = unsafe {
+        raw::himm_plan(
+            book.as_ptr(),
+            book.len(),
+            sheet.as_ptr(),
+            sheet.len(),
+            from,
+            to,
+            buffer.as_mut_ptr(),
+            buffer.len(),
+            &mut cost,
+            &mut count,
+        )
+    };
+    Refusal::check(number).map(|()| Plan { cost, commands: &buffer[..count as usize] })
+}
+
+/// The stream of a book, at the front of the lent output.
+pub fn write<'a>(book: &[u32], out: &'a mut [u8]) -> Result<&'a [u8], Refusal> {
+    let mut length = 0;
+    let number = unsafe { raw::himm_write(book.as_ptr(), book.len(), out.as_mut_ptr(), out.len(), &mut length) };
+    Refusal::check(number).map(|()| &out[..length as usize])
+}
+
+/// The used part of the cheaper of two lists from one state to another.
+pub fn choose<'a>(book: &[u32], from: u32, to: u32, first: &'a [u8], second: &'a [u8]) -> Result<Chosen<'a>, Refusal> {
+    let (mut which, mut used) = (0, 0);
+    let number = unsafe {
+        raw::himm_choose(
+            book.as_ptr(),
+            book.len(),
+            from,
+            to,
+            first.as_ptr(),
+            first.len(),
+            second.as_ptr(),
+            second.len(),
+            &mut which,
+            &mut used,
+        )
+    };
+    let (which, list) = if which == 0 { (Which::First, first) } else { (Which::Second, second) };
+    Refusal::check(number).map(|()| Chosen { which, part: &list[..used as usize] })
+}

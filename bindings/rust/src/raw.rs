@@ -1,0 +1,51 @@
+//! The calls as C sees them, unsafe and unwrapped; `include/himm.h` documents each.
+
+extern "C" {
+    pub fn himm_open_fresh(book: *mut u32, book_len: usize, sheet: *mut u32, sheet_len: usize) -> u32;
+    pub fn himm_open_ladder(book: *mut u32, book_len: usize, sheet: *mut u32, sheet_len: usize) -> u32;
+    pub fn himm_load(
+        book: *mut u32,
+        book_len: usize,
+        sheet: *mut u32,
+        sheet_len: usize,
+        stream: *const u8,
+        stream_len: usize,
+        bytes_taken: *mut u64,
+        commands_taken: *mut u64,
+    ) -> u32;
+    pub fn himm_exit(
+        book: *const u32,
+        book_len: usize,
+        sheet: *const u32,
+        sheet_len: usize,
+        machine: u32,
+        command: u32,
+        cost: *mut u32,
+    ) -> u32;
+    pub fn himm_step(book: *const u32, book_len: usize, state: u32, command: u32, next: *mut u32, cost: *mut u32) -> u32;
+    pub fn himm_plan(
+        book: *const u32,
+        book_len: usize,
+        sheet: *const u32,
+        sheet_len: usize,
+        from: u32,
+        to: u32,
+        plan: *mut u8,
+        plan_len: usize,
+        cost: *mut u32,
+        count: *mut u32,
+    ) -> u32;
+    pub fn himm_write(book: *const u32, book_len: usize, out: *mut u8, out_len: usize, length: *mut u32) -> u32;
+    pub fn himm_choose(
+        book: *const u32,
+        book_len: usize,
+        from: u32,
+        to: u32,
+        first: *const u8,
+        first_len: usize,
+        second: *const u8,
+        second_len: usize,
+        which: *mut u32,
+        used: *mut u32,
+    ) -> u32;
+}

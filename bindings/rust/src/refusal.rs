@@ -1,0 +1,100 @@
+//! The refusals by name.
+
+use std::fmt;
+
+/// Why a call was refused. The number of each is document 01's.
+#[derive(Clone, Copy, Debug, PartialEq, Eq, Hash)]
+#[repr(u32)]
+pub enum Refusal {
+    WrongLength = 1,
+    TornBook = 2,
+    FalseSheet = 3,
+    CutShort = 4,
+    UnknownOpcode = 5,
+    OutOfRange = 6,
+    NotInUse = 7,
+    InUse = 8,
+    AlreadyRefined = 9,
+    StartNode = 10,
+    OtherMachine = 11,
+    TooDeep = 12,
+    Stale = 13,
+    NotPlain = 14,
+    BufferTooShort = 15,
+    NoWay = 16,
+    Stops = 17,
+    NeitherArrives = 18,
+}
+
+impl Refusal {
+    /// Every refusal, the one with number k at place k - 1.
+    pub const ALL: [Refusal; 18] = [
+        Refusal::WrongLength,
+        Refusal::TornBook,
+        Refusal::FalseSheet,
+        Refusal::CutShort,
+        Refusal::UnknownOpcode,
+        Refusal::OutOfRange,
+        Refusal::NotInUse,
+        Refusal::InUse,
+        Refusal::AlreadyRefined,
+        Refusal::StartNode,
+        Refusal::OtherMachine,
+        Refusal::TooDeep,
+        Refusal::Stale,
+        Refusal::NotPlain,
+        Refusal::BufferTooShort,
+        Refusal::NoWay,
+        Refusal::Stops,
+        Refusal::NeitherArrives,
+    ];
+
+    /// The refusal of a number 1 to 18.
+    pub fn of(number: u32) -> Option<Refusal> {
+        Refusal::ALL.get((number as usize).wrapping_sub(1)).copied()
+    }
+
+    /// Its number.
+    pub fn number(self) -> u32 {
+        self as u32
+    }
+
+    /// What a call returned: 0 is no refusal. The library returns no number over 18.
+    pub(crate) fn check(number: u32) -> Result<(), Refusal> {
+        if number == 0 {
+            return Ok(());
+        }
+        Err(Refusal::of(number).expect("a refusal's number is 1 to 18"))
+    }
+
+    fn meaning(self) -> &'static str {
+        match self {
+            Refusal::WrongLength => "a book or a sheet of a wrong length",
+            Refusal::TornBook => "the book is not well formed",
+            Refusal::FalseSheet => "the sheet is not true of the book",
+            Refusal::CutShort => "the stream ends inside a command",
+            Refusal::UnknownOpcode => "a byte that is no opcode",
+            Refusal::OutOfRange => "a machine, node or command out of range",
+            Refusal::NotInUse => "a machine or node that is not in use",
+            Refusal::InUse => "a new machine or node that is in use already",
+            Refusal::AlreadyRefined => "the node is refined already",
+            Refusal::StartNode => "a start node cannot be removed",
+            Refusal::OtherMachine => "the target is in another machine",
+            Refusal::TooDeep => "more than 8 levels",
+            Refusal::Stale => "a machine is stale",
+            Refusal::NotPlain => "the node is no state",
+            Refusal::BufferTooShort => "the buffer is too short",
+            Refusal::NoWay => "no list of commands leads there",
+            Refusal::Stops => "the station stops",
+            Refusal::NeitherArrives => "neither list arrives",
+        }
+    }
+}
+
+impl fmt::Display for Refusal {
+    fn fmt(&self, f: &mut fmt::Formatter<'_>) -> fmt::Result {
+        write!(f, "refused with {}: {}", self.number(), self.meaning())
+    }
+}
+
+impl std::error::Error for Refusal {}

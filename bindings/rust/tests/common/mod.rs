@@ -1,0 +1,245 @@
+//! Each call made twice, by the library and by the model, with everything that it gives and leaves compared.
+#![allow(dead_code)]
+
+use himm::raw;
+use himm_model::flat::Flat;
+use himm_model::sheet::{is_stale, is_true, machine_row, node_row, Exits};
+use himm_model::stream::{Loaded, Row, Station};
+use himm_model::tree::Tree;
+use himm_model::{book, calls, random, sheet, COMMANDS, MACHINES, NODES};
+
+/// What an out-parameter holds before a call.
+const UNTOUCHED: u32 = 0xdead_beef;
+/// What a buffer holds before a call.
+const FILLER: u8 = 0xa5;
+
+/// A book and its sheet, lent to each call.
+#[derive(Clone, PartialEq, Eq)]
+pub struct Holding {
+    pub book: Vec<u32>,
+    pub sheet: Vec<u32>,
+}
+
+/// What the model makes of a holding, worked out once for many calls.
+pub struct View {
+    pub book: Result<Tree, u32>,
+    pub whole: Result<Tree, u32>,
+    exits: Vec<Exits>,
+    flat: Option<Flat>,
+}
+
+impl Holding {
+    pub fn fresh() -> Holding {
+        let mut all = Holding { book: vec![7; himm::BOOK_WORDS], sheet: vec![7; himm::SHEET_WORDS] };
+        himm::open_fresh(&mut all.book, &mut all.sheet).expect("right lengths");
+        all
+    }
+
+    pub fn ladder() -> Holding {
+        let mut all = Holding { book: vec![7; himm::BOOK_WORDS], sheet: vec![7; himm::SHEET_WORDS] };
+        himm::open_ladder(&mut all.book, &mut all.sheet).expect("right lengths");
+        all
+    }
+
+    /// A fresh holding with commands and then a refresh loaded into it.
+    pub fn loaded(stream: &[u8]) -> Holding {
+        let mut all = Holding::fresh();
+        assert_eq!(all.load(stream).number, 0);
+        assert_eq!(all.load(&[himm::REFRESH]).number, 0);
+        all
+    }
+
+    pub fn random(random: &mut random::Random, shape: &random::Shape) -> Holding {
+        Holding::loaded(&random::bytes(&random::book(random, shape)))
+    }
+
+    pub fn view(&self) -> View {
+        let book = calls::read_book(&self.book);
+        let exits = book.as_ref().map_or(vec![], sheet::all_exits);
+        let flat = book.as_ref().ok().map(|_| Flat::of(&self.book));
+        View { whole: calls::read_holding(&self.book, &self.sheet), book, exits, flat }
+    }
+
+    pub fn tree(&self) -> Tree {
+        book::decode(&self.book).expect("a well-formed book")
+    }
+
+    /// Loads a stream and compares the answer, the book and every row of the sheet.
+    pub fn load(&mut self, stream: &[u8]) -> Loaded {
+        let before = self.clone();
+        let got = himm::load(&mut self.book, &mut self.sheet, stream);
+        let got = Loaded { bytes: got.bytes, commands: got.commands, number: got.result.err().map_or(0, |r| r.number()) };
+        match calls::read_holding(&before.book, &before.sheet) {
+            Err(number) => {
+                assert_eq!(got, Loaded { bytes: 0, commands: 0, number });
+                assert!(*self == before, "a refused load wrote");
+            }
+            Ok(tree) => {
+                let mut station = calls::station(tree, &before.sheet);
+                assert_eq!(got, station.load(stream));
+                self.compare(&before, &station);
+            }
+        }
+        got
+    }
+
+    /// The book is the station's; marks are as expected, kept rows keep their words, and the rest is true.
+    fn compare(&self, before: &Holding, station: &Station) {
+        assert!(self.book == book::encode(&station.tree), "another book");
+        for m in station.tree.machines_in_use() {
+            assert_eq!(is_stale(&self.sheet, m), station.rows[m] == Row::Stale, "the mark of machine {m}");
+            if station.rows[m] == Row::Kept {
+                self.compare_kept(before, &station.tree, m);
+            }
+        }
+        assert!(is_true(&station.tree, &self.sheet), "a false sheet");
+    }
+
+    fn compare_kept(&self, before: &Holding, tree: &Tree, m: usize) {
+        let row = machine_row(m)..machine_row(m) + 33;
+        assert_eq!(self.sheet[row.clone()], before.sheet[row], "the row of machine {m}");
+        for n in tree.nodes_of(m) {
+            let row = node_row(n)..node_row(n) + 3;
+            assert_eq!(self.sheet[row.clone()], before.sheet[row], "the row of node {n}");
+        }
+    }
+
+    /// Every machine and command, and some out of range.
+    pub fn compare_exits(&self, view: &View) {
+        for machine in (0..=MACHINES as u32).chain([65535, u32::MAX]) {
+            for command in (0..=COMMANDS as u32).chain([65535, u32::MAX]) {
+                self.compare_exit(view, machine, command);
+            }
+        }
+    }
+
+    pub fn compare_exit(&self, view: &View, machine: u32, command: u32) {
+        let expected = view.whole.as_ref().map_err(|&k| k).and_then(|t| calls::exit(t, &self.sheet, &view.exits, machine, command));
+        let (b, s) = (&self.book, &self.sheet);
+        let mut cost = UNTOUCHED;
+        let number = unsafe { raw::himm_exit(b.as_ptr(), b.len(), s.as_ptr(), s.len(), machine, command, &mut cost) };
+        assert_eq!((number, cost), expected.map_or_else(|k| (k, UNTOUCHED), |c| (0, c)), "exit {machine} {command}");
+    }
+
+    /// Every node and command, and some out of range.
+    pub fn compare_steps(&self, view: &View) {
+        for state in (0..=NODES as u32).chain([65535, u32::MAX]) {
+            for command in (0..=COMMANDS as u32).chain([65535, u32::MAX]) {
+                self.compare_step(view, state, command);
+            }
+        }
+    }
+
+    pub fn compare_step(&self, view: &View, state: u32, command: u32) {
+        let expected = view.book.as_ref().map_err(|&k| k).and_then(|t| calls::step(t, state, command));
+        let (mut next, mut cost) = (UNTOUCHED, UNTOUCHED);
+        let number = unsafe { raw::himm_step(self.book.as_ptr(), self.book.len(), state, command, &mut next, &mut cost) };
+        let expected = expected.map_or_else(|k| (k, UNTOUCHED, UNTOUCHED), |(n, c)| (0, n, c));
+        assert_eq!((number, next, cost), expected, "step {state} {command}");
+    }
+
+    /// Plans between all pairs of some nodes.
+    pub fn compare_plans(&self, view: &View, nodes: &[u32]) {
+        for &from in nodes {
+            for &to in nodes {
+                self.compare_plan(view, from, to, himm::PLAN_BYTES);
+            }
+        }
+    }
+
+    /// The refusal or the least cost is the model's; the list leads there at that cost and passes no state twice.
+    pub fn compare_plan(&self, view: &View, from: u32, to: u32, room: usize) -> u32 {
+        let (b, s) = (&self.book, &self.sheet);
+        let mut plan = vec![FILLER; room];
+        let (mut cost, mut count) = (UNTOUCHED, UNTOUCHED);
+        let number = unsafe {
+            let (at, length) = (plan.as_mut_ptr(), plan.len());
+            raw::himm_plan(b.as_ptr(), b.len(), s.as_ptr(), s.len(), from, to, at, length, &mut cost, &mut count)
+        };
+        match view.expected_plan(&self.sheet, from, to, room) {
+            Err(refusal) => {
+                assert_eq!((number, cost, count), (refusal, UNTOUCHED, UNTOUCHED), "plan {from} {to}");
+                assert!(plan.iter().all(|&byte| byte == FILLER), "a refused plan wrote");
+            }
+            Ok(least) => {
+                assert_eq!((number, cost), (0, least), "plan {from} {to}");
+                let tree = view.book.as_ref().expect("a well-formed book");
+                walk(tree, from as usize, to as usize, least, &plan, count as usize);
+            }
+        }
+        number
+    }
+
+    /// Write with room to spare, with just enough, with one byte too few and with none.
+    pub fn compare_write(&self, view: &View) {
+        let long = view.book.as_ref().map_or(0, |tree| himm_model::write::stream(tree).len());
+        for room in [himm::STREAM_BYTES, long, long.saturating_sub(1), 0] {
+            let mut out = vec![FILLER; room];
+            let mut length = UNTOUCHED;
+            let number = unsafe { raw::himm_write(self.book.as_ptr(), self.book.len(), out.as_mut_ptr(), room, &mut length) };
+            let mut expected = view.book.as_ref().map_err(|&k| k).and_then(|t| calls::write(t, room));
+            if let Ok(stream) = &mut expected {
+                assert_eq!(length as usize, stream.len());
+                stream.resize(room, FILLER);
+            }
+            assert_eq!(number, expected.as_ref().err().copied().unwrap_or(0), "write into {room} bytes");
+            assert!(number == 0 || length == UNTOUCHED);
+            assert!(out == expected.unwrap_or(vec![FILLER; room]), "another stream");
+        }
+    }
+
+    pub fn compare_choice(&self, view: &View, from: u32, to: u32, first: &[u8], second: &[u8]) -> u32 {
+        let expected = view.book.as_ref().map_err(|&k| k).and_then(|t| calls::choose(t, from, to, first, second));
+        let b = &self.book;
+        let (mut which, mut used) = (UNTOUCHED, UNTOUCHED);
+        let number = unsafe {
+            let (one, two) = ((first.as_ptr(), first.len()), (second.as_ptr(), second.len()));
+            raw::himm_choose(b.as_ptr(), b.len(), from, to, one.0, one.1, two.0, two.1, &mut which, &mut used)
+        };
+        let expected = expected.map_or_else(|k| (k, UNTOUCHED, UNTOUCHED), |(w, n)| (0, w, n as u32));
+        assert_eq!((number, which, used), expected, "choose {from} {to} {first:?} {second:?}");
+        number
+    }
+
+    /// The stream of the book, loaded into another holding, leaves the same book, all stale.
+    pub fn compare_round_trip(&self, other: &mut Holding) {
+        let mut out = vec![0; himm::STREAM_BYTES];
+        let stream = himm::write(&self.book, &mut out).expect("a well-formed book");
+        let loaded = other.load(stream);
+        assert_eq!((loaded.number, loaded.bytes as usize), (0, stream.len()));
+        assert!(other.book == self.book, "another book after the round trip");
+        assert!(other.sheet == sheet::stale(&self.tree()), "another sheet after the round trip");
+    }
+}
+
+impl View {
+    fn expected_plan(&self, sheet: &[u32], from: u32, to: u32, room: usize) -> Result<u32, u32> {
+        let tree = self.whole.as_ref().map_err(|&k| k)?;
+        calls::plan(tree, sheet, self.flat.as_ref().expect("a flat tree"), from, to, room)
+    }
+}
+
+/// Follows a plan through the tree.
+fn walk(tree: &Tree, from: usize, to: usize, least: u32, plan: &[u8], count: usize) {
+    assert!(count < tree.states().len(), "more commands than states less 1");
+    assert!(plan[count..].iter().all(|&byte| byte == FILLER), "a plan wrote past its end");
+    let mut passed = vec![from];
+    let mut sum = 0;
+    for &command in &plan[..count] {
+        let (next, cost) = tree.step(passed[passed.len() - 1], command as usize).expect("no stop");
+        assert!(!passed.contains(&next), "a state passed twice");
+        passed.push(next);
+        sum += cost;
+    }
+    assert_eq!((passed[count], sum), (to, least), "a list that costs or leads otherwise");
+}
+
+/// Node numbers to plan between: the states, and some numbers that are none.
+pub fn nodes_to_try(tree: &Tree, random: &mut random::Random, most: usize) -> Vec<u32> {
+    let states = tree.states();
+    let mut nodes: Vec<u32> = random.shuffled(states.len()).into_iter().take(most).map(|i| states[i] as u32).collect();
+    nodes.extend((0..NODES as u32).find(|&n| tree.nodes[n as usize].is_none()));
+    nodes.extend((0..NODES as u32).find(|&n| tree.nodes[n as usize].as_ref().is_some_and(|node| node.below.is_some())));
+    nodes.extend([256, u32::MAX]);
+    nodes
+}

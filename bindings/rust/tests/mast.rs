@@ -1,0 +1,98 @@
+//! Document 01's own examples, with the numbers written out.
+
+mod common;
+
+use common::Holding;
+use himm::{Arrival, Refusal};
+
+const MAST: &str = "10 00 0000 11 00 0001 11 00 0002 12 0001 01 000A 11 01 000B 14 0000 00 0001 0005 14 0000 02 0002 0014 \
+                    14 0001 01 0002 0003 14 0002 00 0000 0007 14 000A 01 000A 0001 14 000A 02 000B 0004";
+
+fn hex(text: &str) -> Vec<u8> {
+    let digits: Vec<u32> = text.chars().filter_map(|c| c.to_digit(16)).collect();
+    digits.chunks(2).map(|pair| (pair[0] * 16 + pair[1]) as u8).collect()
+}
+
+fn mast(more: &str) -> Holding {
+    Holding::loaded(&hex(&(MAST.to_string() + more)))
+}
+
+fn plan(holding: &Holding, from: u32, to: u32) -> Result<(u32, Vec<u8>), Refusal> {
+    let mut buffer = [0; himm::PLAN_BYTES];
+    himm::plan(&holding.book, &holding.sheet, from, to, &mut buffer).map(|plan| (plan.cost, plan.commands.to_vec()))
+}
+
+#[test]
+fn plans() {
+    let mast = mast("");
+    assert_eq!(plan(&mast, 0, 2), Ok((12, vec![0, 2, 1])));
+    assert_eq!(plan(&mast, 11, 10), Ok((15, vec![1, 0, 0])));
+    assert_eq!(plan(&mast, 2, 11), Ok((16, vec![0, 0, 2])));
+    assert_eq!(plan(&mast, 0, 0), Ok((0, vec![])));
+}
+
+#[test]
+fn cleared_transitions() {
+    assert_eq!(plan(&mast("15 000A 01"), 0, 2).map(|p| p.0), Ok(8));
+    assert_eq!(plan(&mast("15 0001 01"), 0, 2).map(|p| p.0), Ok(20));
+    assert_eq!(plan(&mast("15 0001 01 15 0000 02"), 0, 2), Err(Refusal::NoWay));
+}
+
+#[test]
+fn exit_costs() {
+    let mast = mast("");
+    let exits = |m| [0, 1, 2].map(|x| himm::exit(&mast.book, &mast.sheet, m, x));
+    assert_eq!(exits(1), [Ok(0), Ok(4), Ok(4)]);
+    assert_eq!(exits(0), [Ok(5), Ok(0), Ok(9)]);
+}
+
+#[test]
+fn steps() {
+    let mast = mast("");
+    assert_eq!(himm::step(&mast.book, 11, 1), Ok(Arrival { state: 2, cost: 3 }));
+    assert_eq!(himm::step(&mast.book, 11, 0), Err(Refusal::Stops));
+    assert_eq!(himm::step(&mast.book, 1, 0), Err(Refusal::NotPlain));
+}
+
+#[test]
+fn written_bytes() {
+    let mut out = [0; 70];
+    assert_eq!(himm::write(&mast("").book, &mut out), Ok(&hex(MAST)[..]));
+}
+
+#[test]
+fn buffers_and_ranges() {
+    let mast = mast("");
+    let room = |bytes: usize| himm::plan(&mast.book, &mast.sheet, 0, 2, &mut vec![0; bytes]).map(|p| p.cost);
+    assert_eq!((room(3), room(2)), (Ok(12), Err(Refusal::BufferTooShort)));
+    assert_eq!(himm::step(&mast.book, 255, 0), Err(Refusal::NotInUse));
+    assert_eq!(himm::step(&mast.book, 256, 0), Err(Refusal::OutOfRange));
+}
+
+#[test]
+fn refused_removal() {
+    let mut mast = mast("");
+    let loaded = himm::load(&mut mast.book, &mut mast.sheet, &hex("18 13 000A 18"));
+    assert_eq!((loaded.bytes, loaded.commands, loaded.result), (1, 1, Err(Refusal::StartNode)));
+}
+
+#[test]
+fn levels() {
+    let mut chain = Holding::fresh();
+    for k in 0..7 {
+        assert_eq!(chain.load(&[0x12, 0, k, k + 1, 0, k + 1]).number, 0);
+    }
+    assert_eq!(chain.load(&[0x12, 0, 7, 8, 0, 8]).number, 12);
+    assert_eq!(chain.load(&[0x17, 8, 0, 8]).number, 12);
+    assert_eq!(chain.load(&[0x18]).number, 0);
+    assert_eq!(plan(&chain, 7, 7), Ok((0, vec![])));
+}
+
+#[test]
+fn refusals_by_number() {
+    for (at, refusal) in Refusal::ALL.iter().enumerate() {
+        assert_eq!(refusal.number() as usize, at + 1);
+        assert_eq!(Refusal::of(refusal.number()), Some(*refusal));
+    }
+    assert_eq!((Refusal::of(0), Refusal::of(19)), (None, None));
+}

@@ -1,0 +1,133 @@
+//! Long lists of loads, refused commands included, each compared with the expected station.
+
+mod common;
+
+use common::{nodes_to_try, Holding};
+use himm_model::random::{edit, Random, Shape};
+use himm_model::stream::{Command, Station};
+use himm_model::tree::Tree;
+
+/// Some edits of a growing tree as one stream; commands that are refused stay in.
+fn edits(random: &mut Random, tree: &Tree, count: usize) -> Vec<u8> {
+    let mut station = Station::stale(tree.clone());
+    let mut stream = vec![];
+    for _ in 0..count {
+        let command = edit(random, &station.tree);
+        let refused = command.refusal(&station.tree) != 0;
+        if !refused {
+            station.apply(&command);
+        }
+        if !refused || random.chance(10) {
+            stream.extend(command.bytes());
+        }
+    }
+    stream
+}
+
+/// Damage that a stream may have: cut, a byte changed, a byte put in.
+fn damage(random: &mut Random, stream: &mut Vec<u8>) {
+    let at = random.below(stream.len() + 1);
+    match random.below(12) {
+        0 => stream.truncate(at),
+        1 => stream.insert(at, random.below(256) as u8),
+        2 if at < stream.len() => stream[at] = random.below(256) as u8,
+        _ => (),
+    }
+}
+
+/// One list of loads with checks of all calls on the way and at the end.
+fn season(seed: u64, mut holding: Holding, loads: usize) {
+    let mut random = Random::new(seed);
+    for _ in 0..loads {
+        let count = random.pick(&[0, 1, 2, 5, 20]);
+        let mut stream = edits(&mut random, &holding.tree(), count);
+        damage(&mut random, &mut stream);
+        holding.load(&stream);
+        if random.chance(10) {
+            holding.compare_exits(&holding.view());
+        }
+    }
+    holding.load(&[himm::REFRESH]);
+    let view = holding.view();
+    let nodes = nodes_to_try(&holding.tree(), &mut random, 15);
+    holding.compare_plans(&view, &nodes);
+    holding.compare_exits(&view);
+    holding.compare_write(&view);
+    holding.compare_round_trip(&mut Holding::fresh());
+}
+
+#[test]
+fn from_fresh() {
+    for seed in 0..60 {
+        season(20_000 + seed, Holding::fresh(), 40);
+    }
+}
+
+#[test]
+fn from_the_ladder() {
+    for seed in 0..15 {
+        let mut random = Random::new(21_000 + seed);
+        let mut ladder = Holding::ladder();
+        if random.chance(50) {
+            ladder.load(&[himm::REFRESH]);
+        }
+        season(22_000 + seed, ladder, 25);
+    }
+}
+
+#[test]
+fn from_random_books() {
+    for seed in 0..40 {
+        let mut random = Random::new(23_000 + seed);
+        let shape = Shape::random(&mut random);
+        season(24_000 + seed, Holding::random(&mut random, &shape), 25);
+    }
+}
+
+/// Every opcode cut at every length, and every unknown opcode.
+#[test]
+fn cut_and_unknown() {
+    let mut holding = Holding::loaded(&[0x11, 0, 0, 1]);
+    for opcode in 0..=255 {
+        for length in 0..8 {
+            let mut stream = vec![0x18, opcode];
+            stream.extend(vec![0; length]);
+            holding.clone().load(&stream);
+            holding.load(&stream[..1]);
+        }
+    }
+}
+
+/// Each command with every operand at the edges of its range.
+#[test]
+fn operands_at_the_edges() {
+    let mut random = Random::new(25_000);
+    let shape = Shape { machines: 6, nodes: 20, ..Shape::full() };
+    let holding = Holding::random(&mut random, &shape);
+    let nodes: Vec<usize> = [0, 255, 256, 65535].into_iter().chain(holding.tree().states().into_iter().take(2)).collect();
+    for &node in &nodes {
+        for machine in [0, 63, 64, 255].into_iter().chain(holding.tree().machines_in_use().into_iter().take(2)) {
+            for &other in &nodes {
+                for command in [0, 15, 16, 255] {
+                    edge_cases(&holding, node, machine, other, command);
+                }
+            }
+        }
+    }
+}
+
+fn edge_cases(holding: &Holding, node: usize, machine: usize, other: usize, command: usize) {
+    let all = [
+        Command::Begin { machine, start: node },
+        Command::Add { machine, node },
+        Command::Refine { node, machine, start: other },
+        Command::Remove { node },
+        Command::Arrow { node, command, target: other, cost: 65535 },
+        Command::Clear { node, command },
+        Command::Start { node },
+        Command::Crown { machine, node },
+    ];
+    for edit in all {
+        holding.clone().load(&[edit.bytes(), vec![himm::REFRESH]].concat());
+    }
+}

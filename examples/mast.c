@@ -1,0 +1,66 @@
+/*
+** Opens a holding, loads the stream whose hexadecimal text is named on the command line, refreshes it, and prints the cheapest plan
+** from state 0 to state 2 and from state 2 to state 11, with each state that the station passes.
+*/
+#include <ctype.h>
+#include <stdio.h>
+#include <stdlib.h>
+
+#include "himm.h"
+
+static uint32_t book[HIMM_BOOK_WORDS], sheet[HIMM_SHEET_WORDS];
+static uint8_t stream[HIMM_STREAM_BYTES];
+
+/* Ends the program where a call was refused. */
+static void must(const char *call, uint32_t refusal) {
+  if (refusal == HIMM_OK) return;
+  fprintf(stderr, "%s: refused with %u\n", call, (unsigned)refusal);
+  exit(1);
+}
+
+/* Reads pairs of hexadecimal digits, skipping blanks and comments; gives the number of bytes. */
+static size_t read_hex(FILE *text) {
+  size_t digits = 0;
+  unsigned byte = 0;
+  for (int c = fgetc(text); c != EOF && digits < 2 * sizeof stream; c = fgetc(text)) {
+    if (c == '#') while (c != '\n' && c != EOF) c = fgetc(text);
+    if (!isxdigit(c)) continue;
+    byte = byte << 4 | (unsigned)(isdigit(c) ? c - '0' : toupper(c) - 'A' + 10);
+    if (digits++ % 2 == 1) stream[digits / 2 - 1] = (uint8_t)byte;
+  }
+  return digits / 2;
+}
+
+static void load(const uint8_t *bytes, size_t length) {
+  uint64_t bytes_taken, commands_taken;
+  must("load", himm_load(book, HIMM_BOOK_WORDS, sheet, HIMM_SHEET_WORDS, bytes, length, &bytes_taken, &commands_taken));
+  printf("loaded %llu bytes, %llu commands\n", (unsigned long long)bytes_taken, (unsigned long long)commands_taken);
+}
+
+static void show_plan(uint32_t from, uint32_t to) {
+  uint8_t plan[HIMM_PLAN_BYTES];
+  uint32_t cost, count, state = from;
+  must("plan", himm_plan(book, HIMM_BOOK_WORDS, sheet, HIMM_SHEET_WORDS, from, to, plan, HIMM_PLAN_BYTES, &cost, &count));
+  printf("from %u to %u: cost %u, %u commands:", (unsigned)from, (unsigned)to, (unsigned)cost, (unsigned)count);
+  for (uint32_t i = 0; i < count; i++) {
+    must("step", himm_step(book, HIMM_BOOK_WORDS, state, plan[i], &state, &cost));
+    printf(" %u (to %u, cost %u)", (unsigned)plan[i], (unsigned)state, (unsigned)cost);
+  }
+  printf("\n");
+}
+
+int main(int argc, char **argv) {
+  static const uint8_t refresh[] = {HIMM_REFRESH};
+  FILE *text = argc == 2 ? fopen(argv[1], "r") : NULL;
+  if (text == NULL) {
+    fprintf(stderr, "usage: mast FILE.hex\n");
+    return 2;
+  }
+  must("open", himm_open_fresh(book, HIMM_BOOK_WORDS, sheet, HIMM_SHEET_WORDS));
+  load(stream, read_hex(text));
+  fclose(text);
+  load(refresh, sizeof refresh);
+  show_plan(0, 2);
+  show_plan(2, 11);
+  return 0;
+}

@@ -1,0 +1,212 @@
+/*
+** himm.h: the public calls of Violnebula, a planner for hierarchical Mealy machines.
+**
+** A station is a tree of small machines. A node of a machine is plain, and then it is a state, or it is refined and holds one machine
+** below it. A node has at most one transition for each command, to a node of the same machine, with a cost. A command at a state uses the
+** transition of the lowest node that has one, the state itself first and then the nodes that hold it; the station then enters the
+** target, that is, it goes to the start node of the machine below, and on down to a state. The cost is that of the transition alone.
+** Where no node has a transition for the command, the station stops.
+**
+** A station is kept in two lists of 32-bit words: a book (the tree) and a sheet (the exit costs and the cheapest ways inside each
+** machine, from which plans are made). The layout of both is in document 01, "Book and sheet in memory".
+**
+** MEMORY. The caller owns all memory, before, during and after each call. Nothing is allocated, nothing is kept between calls, and there
+** is no global state: calls on different memory may run on different threads at the same time, and so may calls that only read the
+** same memory. A list passes as a pointer and its length, counted in elements. Pointers must not be null, also where a length is 0; they
+** must be aligned for their type; and memory that a call writes must not overlap any other memory lent to that call. A call needs less
+** than 128 kilobytes of stack, and the functions memcpy and memset.
+**
+** ANSWERS. Each call returns 0 or the number of a refusal (HIMM_WRONG_LENGTH and the others below). On a refusal nothing that was lent
+** has changed, buffers and out-parameters included. Only himm_load differs: it always stores its two counts, and the commands taken
+** before a refused one stay done. Where two refusals hold, the one that the call lists first is returned. Within one refusal all
+** arguments are looked at before the next: a plan from a node that is not in use to node 256 is refused with HIMM_OUT_OF_RANGE.
+**
+** ANY INPUT. Every call comes to an end on any words and bytes. A book and a sheet from elsewhere are checked whole by each call that
+** reads them, and no earlier call is trusted.
+*/
+#ifndef HIMM_H
+#define HIMM_H
+
+#include <stddef.h>
+#include <stdint.h>
+
+#ifdef __cplusplus
+extern "C" {
+#endif
+
+/*
+** Limits. A machine, a node and a command are numbers from 0, each under its limit; a cost of a transition is at most
+** HIMM_LARGEST_COST. The root is at level 1 and no machine is lower than level HIMM_LEVELS.
+*/
+#define HIMM_MACHINES 64
+#define HIMM_NODES 256
+#define HIMM_COMMANDS 16
+#define HIMM_LEVELS 8
+#define HIMM_LARGEST_COST 65535
+
+/*
+** Sizes: the words of a book and of a sheet, which are exact; the bytes of a plan buffer and of an output that are enough for every
+** book; the largest cost of a plan; how many commands of a list himm_choose looks at.
+*/
+#define HIMM_BOOK_WORDS 4737
+#define HIMM_SHEET_WORDS 2880
+#define HIMM_PLAN_BYTES 255
+#define HIMM_STREAM_BYTES 33918
+#define HIMM_LARGEST_PLAN_COST 16711425
+#define HIMM_LIST_COMMANDS 65536
+
+/*
+** Words with a meaning of their own: a number that is not there ("none"), and a transition or a cost that is not there ("no arrow",
+** "blank").
+*/
+#define HIMM_ABSENT 65535
+#define HIMM_BLANK UINT32_C(4294967295)
+
+/*
+** Opcodes of a stream, with their operands. Nodes and costs take two bytes, high byte first; machines and commands take one.
+*/
+#define HIMM_BEGIN 0x10   /* machine, start node: a new tree of one machine; the old one is emptied first */
+#define HIMM_ADD 0x11     /* machine, new node */
+#define HIMM_REFINE 0x12  /* node, new machine, its new start node */
+#define HIMM_REMOVE 0x13  /* node: it goes with all below it and the transitions into it */
+#define HIMM_ARROW 0x14   /* node, command, target, cost: sets or replaces a transition */
+#define HIMM_CLEAR 0x15   /* node, command: deletes a transition, which may be absent */
+#define HIMM_START 0x16   /* node: it becomes the start node of its machine */
+#define HIMM_CROWN 0x17   /* new root machine, its one node, which holds the old root */
+#define HIMM_REFRESH 0x18 /* fills the rows of every stale machine in the sheet */
+
+/*
+** Refusals. The number is what a call returns.
+*/
+enum himm_refusal {
+  HIMM_OK = 0,               /* not refused */
+  HIMM_WRONG_LENGTH = 1,     /* a book or a sheet of a wrong length */
+  HIMM_TORN_BOOK = 2,        /* the book is not well formed */
+  HIMM_FALSE_SHEET = 3,      /* the sheet is not true of the book */
+  HIMM_CUT_SHORT = 4,        /* the stream ends inside a command */
+  HIMM_UNKNOWN_OPCODE = 5,   /* a byte that is no opcode */
+  HIMM_OUT_OF_RANGE = 6,     /* a machine, node or command that is not under its limit */
+  HIMM_NOT_IN_USE = 7,       /* a machine or node that is not in use */
+  HIMM_IN_USE = 8,           /* a new machine or node that is in use already */
+  HIMM_ALREADY_REFINED = 9,  /* refine: the node holds a machine already */
+  HIMM_START_NODE = 10,      /* remove: the node is its machine's start node */
+  HIMM_OTHER_MACHINE = 11,   /* arrow: the target is in another machine */
+  HIMM_TOO_DEEP = 12,        /* refine, crown: there would be more than 8 levels */
+  HIMM_STALE = 13,           /* a machine is marked stale in the sheet: refresh first */
+  HIMM_NOT_PLAIN = 14,       /* the node is refined, so it is no state */
+  HIMM_BUFFER_TOO_SHORT = 15,/* the plan buffer or the output is too short */
+  HIMM_NO_WAY = 16,          /* no list of commands leads there */
+  HIMM_STOPS = 17,           /* no transition is found: the station stops */
+  HIMM_NEITHER_ARRIVES = 18  /* choose: neither list arrives */
+};
+
+/*
+** himm_open_fresh: make a book of one machine, the root 0, with one node, its start 0, and no transitions.
+** himm_open_ladder: make the book of the ladder, 63 machines of 3 nodes each on 6 levels. Node 3m + k belongs to machine m; k = 0 holds
+** machine 2m + 1 and k = 2 holds machine 2m + 2 where these are under 63; k = 1 is the start node. Commands 0 and 1 go to the neighbours
+** k - 1 and k + 1 at cost 1.
+**
+**   book, book_len    HIMM_BOOK_WORDS words, written whole; what they held does not matter
+**   sheet, sheet_len  HIMM_SHEET_WORDS words, written whole; every machine in use is stale
+**
+** Refuses: HIMM_WRONG_LENGTH.
+*/
+uint32_t himm_open_fresh(uint32_t *book, size_t book_len, uint32_t *sheet, size_t sheet_len);
+uint32_t himm_open_ladder(uint32_t *book, size_t book_len, uint32_t *sheet, size_t sheet_len);
+
+/*
+** himm_load: do the commands of a stream in order, up to its end or to the first command that is refused.
+**
+** A command marks stale every machine that it makes, the machine that it edits and all machines above that one, and blanks their rows
+** in the sheet; crown marks only the new root. Refresh fills the rows of all stale machines and touches no others.
+**
+**   book, book_len      the book, edited in place
+**   sheet, sheet_len    its sheet, edited in place
+**   stream, stream_len  the bytes of the stream, any number of them; an empty stream is taken whole
+**   bytes_taken         always stored: how many bytes the commands done took, which is where a refused command begins
+**   commands_taken      always stored: how many commands were done
+**
+** Refuses, with nothing done and both counts 0: HIMM_WRONG_LENGTH, HIMM_TORN_BOOK, HIMM_FALSE_SHEET.
+** Then at each command, with those before it done and counted: HIMM_UNKNOWN_OPCODE, HIMM_CUT_SHORT, HIMM_OUT_OF_RANGE, HIMM_NOT_IN_USE,
+** HIMM_IN_USE, HIMM_ALREADY_REFINED, HIMM_START_NODE, HIMM_OTHER_MACHINE, HIMM_TOO_DEEP.
+*/
+uint32_t himm_load(uint32_t *book, size_t book_len, uint32_t *sheet, size_t sheet_len, const uint8_t *stream, size_t stream_len,
+                   uint64_t *bytes_taken, uint64_t *commands_taken);
+
+/*
+** himm_exit: the exit cost of a machine for a command: the least cost, the last command not counted, of a list of commands from the
+** machine's start state that all use transitions in the machine or below it, but for the last, the given command, which finds none
+** there.
+**
+**   book, book_len, sheet, sheet_len  read only
+**   machine, command                  the machine to leave and the command that leaves it
+**   cost                              the exit cost
+**
+** Refuses: HIMM_WRONG_LENGTH, HIMM_TORN_BOOK, HIMM_FALSE_SHEET, HIMM_OUT_OF_RANGE, HIMM_NOT_IN_USE, HIMM_STALE (that machine),
+** HIMM_NO_WAY (the machine cannot be left by that command).
+*/
+uint32_t himm_exit(const uint32_t *book, size_t book_len, const uint32_t *sheet, size_t sheet_len, uint32_t machine, uint32_t command,
+                   uint32_t *cost);
+
+/*
+** himm_step: the state that one command leads to, and its cost.
+**
+**   book, book_len  read only; no sheet is needed
+**   state, command  where the station is and what it is told
+**   next            the state that it comes to
+**   cost            the cost of the transition used
+**
+** Refuses: HIMM_WRONG_LENGTH, HIMM_TORN_BOOK, HIMM_OUT_OF_RANGE, HIMM_NOT_IN_USE, HIMM_NOT_PLAIN, HIMM_STOPS.
+*/
+uint32_t himm_step(const uint32_t *book, size_t book_len, uint32_t state, uint32_t command, uint32_t *next, uint32_t *cost);
+
+/*
+** himm_plan: a cheapest list of commands from one state to another. It passes no state twice, and no list that leads there costs less.
+** From a state to itself it is the empty list at cost 0.
+**
+**   book, book_len, sheet, sheet_len  read only; no machine may be stale
+**   from, to                          two states
+**   plan, plan_len                    takes the commands, a byte each, at its front; later bytes are untouched. It must have as many bytes
+**                                     as the book has states, less 1; HIMM_PLAN_BYTES is always enough
+**   cost                              the cost of the whole list, at most HIMM_LARGEST_PLAN_COST
+**   count                             how many commands the list has
+**
+** Refuses: HIMM_WRONG_LENGTH, HIMM_TORN_BOOK, HIMM_FALSE_SHEET, HIMM_STALE (any machine), HIMM_OUT_OF_RANGE, HIMM_NOT_IN_USE,
+** HIMM_NOT_PLAIN, HIMM_BUFFER_TOO_SHORT, HIMM_NO_WAY (no list of commands leads there).
+*/
+uint32_t himm_plan(const uint32_t *book, size_t book_len, const uint32_t *sheet, size_t sheet_len, uint32_t from, uint32_t to,
+                   uint8_t *plan, size_t plan_len, uint32_t *cost, uint32_t *count);
+
+/*
+** himm_write: the stream of a book. Loaded into any holding whose book is well formed and whose sheet is true, it is taken whole and
+** leaves the same book, every machine in use stale.
+**
+**   book, book_len  read only; no sheet is needed
+**   out, out_len    takes the stream at its front; later bytes are untouched. HIMM_STREAM_BYTES bytes are always enough
+**   length          how many bytes the stream has
+**
+** Refuses: HIMM_WRONG_LENGTH, HIMM_TORN_BOOK, HIMM_BUFFER_TOO_SHORT (out is shorter than the stream).
+*/
+uint32_t himm_write(const uint32_t *book, size_t book_len, uint8_t *out, size_t out_len, uint32_t *length);
+
+/*
+** himm_choose: which of two lists of commands leads from one state to another at the lower cost, and how much of it is used: up to its
+** first arrival. A list ends at a byte over 15, where the station stops, or after HIMM_LIST_COMMANDS commands. On equal cost the first
+** list is chosen. Where from is to, nothing of the first list is used.
+**
+**   book, book_len                         read only; no sheet is needed
+**   from, to                               two states
+**   first, first_len, second, second_len   the two lists, a byte for each command, any number of them
+**   which                                  0 for the first list, 1 for the second
+**   used                                   how many commands of that list are used
+**
+** Refuses: HIMM_WRONG_LENGTH, HIMM_TORN_BOOK, HIMM_OUT_OF_RANGE, HIMM_NOT_IN_USE, HIMM_NOT_PLAIN, HIMM_NEITHER_ARRIVES.
+*/
+uint32_t himm_choose(const uint32_t *book, size_t book_len, uint32_t from, uint32_t to, const uint8_t *first, size_t first_len,
+                     const uint8_t *second, size_t second_len, uint32_t *which, uint32_t *used);
+
+#ifdef __cplusplus
+}
+#endif
+
+#endif
