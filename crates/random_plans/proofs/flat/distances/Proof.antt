@@ -1,0 +1,62 @@
+-- `random_plans::flat::distances` is safe and ends. Assumes nothing.
+use Prim.Native.Nat.{_-_}
+use borrow.Author.Needs.{needs}
+use Rattle.random_plans.proofs.flat.distances.Statement.{statement}
+use Rattle.random_plans.proofs.flat.distances.Tie as tie
+
+abbrev Inv-loop : tie.InvT-loop
+Inv-loop moves a costs₀ open₀ i₀ costs «open» i = Unit {0}
+
+abbrev μ-loop : tie.MeasureT-loop
+μ-loop moves a costs₀ open₀ i₀ costs «open» i = 256 - i
+
+set-reached-requires : tie.Need-set-reached-requires Inv-loop μ-loop
+set-reached-requires c κs = search needs
+
+loop-holds : tie.Need-loop-holds Inv-loop μ-loop
+loop-holds c = search needs
+
+nearest-requires : tie.Need-nearest-requires Inv-loop μ-loop
+nearest-requires c κs = search needs
+
+returns : tie.Need-returns Inv-loop μ-loop
+returns c = search needs
+
+cast-open : tie.Need-cast-open Inv-loop μ-loop
+cast-open c = search needs
+
+array-write-open : tie.Need-array-write-open Inv-loop μ-loop
+array-write-open c = search needs
+
+relax-requires : tie.Need-relax-requires Inv-loop μ-loop
+relax-requires c κs = search needs
+
+add-i : tie.Need-add-i Inv-loop μ-loop
+add-i c = search needs
+
+loop-less : tie.Need-loop-less Inv-loop μ-loop
+loop-less c = search needs
+
+loop-again : tie.Need-loop-again Inv-loop μ-loop
+loop-again c = search needs
+
+returns-2 : tie.Need-returns-2 Inv-loop μ-loop
+returns-2 c = search needs
+
+pub distances-spec : {M : Type 1} → statement M
+distances-spec =
+    tie.close
+    (tie.spec
+    Inv-loop
+    μ-loop
+    set-reached-requires
+    loop-holds
+    nearest-requires
+    returns
+    cast-open
+    array-write-open
+    relax-requires
+    add-i
+    loop-less
+    loop-again
+    returns-2)

@@ -1,0 +1,188 @@
+// What the commands of a stream do to the test's own station, as document 01 says of the expected station, and which machines they mark.
+use crate::station::BELOW;
+use crate::station::COMMANDS;
+use crate::station::COST;
+use crate::station::HOLDER;
+use crate::station::LEVELS;
+use crate::station::MACHINES;
+use crate::station::MARK;
+use crate::station::NODES;
+use crate::station::NONE;
+use crate::station::OWNER;
+use crate::station::ROOT;
+use crate::station::START;
+use crate::station::Station;
+use crate::station::TARGET;
+use crate::station::get;
+use crate::station::put;
+use crate::station::transition;
+use crate::station::within;
+
+// Clears every mark.
+pub fn unmark(s: &mut Station) {
+    let mut m = 0u32;
+    while m < MACHINES {
+        put(s, MARK, m, 0);
+        m += 1;
+    }
+}
+
+// Marks machine m and all above it.
+fn mark_up(s: &mut Station, m: u32) {
+    let mut at = m;
+    let mut i = 0u32;
+    while i < LEVELS {
+        put(s, MARK, at, 1);
+        at = get(s, OWNER, get(s, HOLDER, at));
+        i += 1;
+    }
+}
+
+// Empties the station, and leaves only machine m, as root, with its start node.
+pub fn begin(s: &mut Station, m: u32, n: u32) {
+    *s = [NONE; 9728];
+    unmark(s);
+    put(s, ROOT, 0, m);
+    put(s, START, m, n);
+    add(s, m, n);
+}
+
+pub fn add(s: &mut Station, m: u32, n: u32) {
+    put(s, OWNER, n, m);
+    mark_up(s, m);
+}
+
+pub fn refine(s: &mut Station, n: u32, m: u32, first: u32) {
+    put(s, BELOW, n, m);
+    put(s, HOLDER, m, n);
+    put(s, START, m, first);
+    add(s, m, first);
+}
+
+// Gives node n a transition for x, or with "none" twice takes it away.
+fn set_transition(s: &mut Station, n: u32, x: u32, v: u32, c: u32) {
+    if x < COMMANDS {
+        put(s, TARGET + x, n, v);
+        put(s, COST + x, n, c);
+    }
+}
+
+pub fn arrow(s: &mut Station, n: u32, x: u32, v: u32, c: u32) {
+    set_transition(s, n, x, v, c);
+    let m = get(s, OWNER, n);
+    mark_up(s, m);
+}
+
+pub fn restart(s: &mut Station, n: u32) {
+    let m = get(s, OWNER, n);
+    put(s, START, m, n);
+    mark_up(s, m);
+}
+
+pub fn crown(s: &mut Station, m: u32, n: u32) {
+    let old = get(s, ROOT, 0);
+    put(s, BELOW, n, old);
+    put(s, HOLDER, old, n);
+    put(s, ROOT, 0, m);
+    put(s, START, m, n);
+    add(s, m, n);
+}
+
+// Removes node n, all below it, and the transitions into it. What goes is found before anything is changed.
+pub fn remove(s: &mut Station, n: u32) {
+    let m = get(s, OWNER, n);
+    mark_up(s, m);
+    let mut gone = [false; 256];
+    find_gone(s, n, &mut gone);
+    drop_machines(s, &gone);
+    drop_nodes(s, n, &gone);
+}
+
+fn is_gone(gone: &[bool; 256], n: u32) -> bool {
+    if n < NODES { gone[n as usize] } else { false }
+}
+
+fn find_gone(s: &Station, n: u32, gone: &mut [bool; 256]) {
+    let mut k = 0u32;
+    while k < NODES {
+        gone[k as usize] = within(s, n, k);
+        k += 1;
+    }
+}
+
+fn drop_machines(s: &mut Station, gone: &[bool; 256]) {
+    let mut m = 0u32;
+    while m < MACHINES {
+        if is_gone(gone, get(s, HOLDER, m)) {
+            put(s, HOLDER, m, NONE);
+            put(s, START, m, NONE);
+            put(s, MARK, m, 0);
+        }
+        m += 1;
+    }
+}
+
+fn drop_nodes(s: &mut Station, n: u32, gone: &[bool; 256]) {
+    let mut k = 0u32;
+    while k < NODES {
+        if is_gone(gone, k) {
+            put(s, OWNER, k, NONE);
+            put(s, BELOW, k, NONE);
+            drop_transitions(s, k, NONE);
+        } else {
+            drop_transitions(s, k, n);
+        }
+        k += 1;
+    }
+}
+
+// Takes away the transitions of node k into v; all of them where v is "none".
+fn drop_transitions(s: &mut Station, k: u32, v: u32) {
+    let mut x = 0u32;
+    while x < COMMANDS {
+        if v == NONE || transition(s, TARGET, k, x) == v {
+            set_transition(s, k, x, NONE, NONE);
+        }
+        x += 1;
+    }
+}
+
+// The station of Open ladder, made by edits: machine m with the nodes 3m, 3m + 1 and 3m + 2, one after the other.
+pub fn open_ladder(s: &mut Station) {
+    begin(s, 0, 1);
+    rung(s, 0);
+    let mut m = 1u32;
+    while m < 63 {
+        refine(s, ladder_holder(m), m, 3 * m + 1);
+        rung(s, m);
+        m += 1;
+    }
+}
+
+// The node that holds machine m of the ladder: node 3k holds machine 2k + 1, node 3k + 2 machine 2k + 2.
+fn ladder_holder(m: u32) -> u32 {
+    if m == 0 {
+        return NONE;
+    }
+    if m >= 63 {
+        return NONE;
+    }
+    if m % 2 == 1 {
+        return (m - 1) / 2 * 3;
+    }
+    (m - 2) / 2 * 3 + 2
+}
+
+// The two other nodes of a machine of the ladder, and the transitions of all three.
+fn rung(s: &mut Station, m: u32) {
+    if m >= 63 {
+        return;
+    }
+    let n = 3 * m;
+    add(s, m, n);
+    add(s, m, n + 2);
+    arrow(s, n, 1, n + 1, 1);
+    arrow(s, n + 1, 1, n + 2, 1);
+    arrow(s, n + 1, 0, n, 1);
+    arrow(s, n + 2, 0, n + 1, 1);
+}

@@ -1,0 +1,141 @@
+// The test's own station: one tree in a list of words, laid out in a way of its own. Nothing here reads a word of a book or a sheet.
+ghost use Prim.Native.Nat.{_≤_};
+
+pub const NODES: u32 = 256;
+
+pub const MACHINES: u32 = 64;
+
+pub const COMMANDS: u32 = 16;
+
+pub const LEVELS: u32 = 8;
+
+pub const NONE: u32 = 65535;
+
+// The fields, with a word for each node or machine: owner and machine below of a node, start, holder and mark of a machine; the root at 0 of
+// its field; and for each command a field of targets and one of costs.
+pub const OWNER: u32 = 0;
+
+pub const BELOW: u32 = 1;
+
+pub const START: u32 = 2;
+
+pub const HOLDER: u32 = 3;
+
+pub const MARK: u32 = 4;
+
+pub const ROOT: u32 = 5;
+
+pub const TARGET: u32 = 6;
+
+pub const COST: u32 = 22;
+
+pub type Station = [u32; 9728];
+
+// What a field has at a number; "none" outside.
+pub fn get(s: &Station, field: u32, i: u32) -> u32 {
+    if field >= 38 {
+        return NONE;
+    }
+    if i >= NODES {
+        return NONE;
+    }
+    s[256 * (field as usize) + i as usize]
+}
+
+// Writes a field at a number; outside, nothing.
+pub fn put(s: &mut Station, field: u32, i: u32, w: u32) {
+    if field >= 38 {
+        return;
+    }
+    if i < NODES {
+        s[256 * (field as usize) + i as usize] = w;
+    }
+}
+
+// The target, or with COST the cost, of node n's transition for x; "none" where there is none.
+pub fn transition(s: &Station, field: u32, n: u32, x: u32) -> u32 {
+    if x >= COMMANDS {
+        return NONE;
+    }
+    get(s, field % 64 + x, n)
+}
+
+pub fn is_state(s: &Station, n: u32) -> bool {
+    get(s, OWNER, n) != NONE && get(s, BELOW, n) == NONE
+}
+
+// The node that holds node n's machine; none at the root's nodes.
+pub fn above(s: &Station, n: u32) -> u32 {
+    get(s, HOLDER, get(s, OWNER, n))
+}
+
+// Whether node k is n or stands below it.
+pub fn within(s: &Station, n: u32, k: u32) -> bool {
+    let mut at = k;
+    let mut i = 0u32;
+    while i < LEVELS {
+        if at == n {
+            return true;
+        }
+        at = above(s, at);
+        i += 1;
+    }
+    false
+}
+
+// The level of a node, 1 in the root.
+pub fn level(s: &Station, n: u32) -> u32 {
+    let mut at = n;
+    let mut k = 0u32;
+    while k < 99 {
+        if at >= NODES {
+            return k;
+        }
+        at = above(s, at);
+        k += 1;
+    }
+    k
+}
+
+// The greatest level of a node.
+pub fn depth(s: &Station) -> u32 {
+    let mut most = 1u32;
+    let mut n = 0u32;
+    while n < NODES {
+        let l = level(s, n);
+        if l > most {
+            most = l;
+        }
+        n += 1;
+    }
+    most
+}
+
+// The number of states.
+pub fn states(s: &Station) -> u32 {
+    let mut count = 0u32;
+    let mut n = 0u32;
+    while n < NODES {
+        count = count % NODES + one_if(is_state(s, n));
+        n += 1;
+    }
+    count
+}
+
+fn one_if(b: bool) -> u32
+    ensures { λ r. ⌜ r ≤ 1 ⌝ }
+{
+    if b { 1 } else { 0 }
+}
+
+// Whether a machine is marked.
+pub fn any_marked(s: &Station) -> bool {
+    let mut m = 0u32;
+    while m < MACHINES {
+        if get(s, MARK, m) == 1 {
+            return true;
+        }
+        m += 1;
+    }
+    false
+}

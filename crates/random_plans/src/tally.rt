@@ -1,0 +1,86 @@
+// What was counted for a shape, and the lines that are written.
+use libc::STDOUT_FILENO;
+
+pub type Tally = [u64; 72];
+
+// Refusals of Load stand at their numbers, those of Plan at 32 and their numbers, 'no way' among them.
+pub const LOAD: u32 = 0;
+
+pub const PLAN: u32 = 32;
+
+pub const NO_WAY: u32 = 48;
+
+pub const BOOKS: u32 = 64;
+
+pub const STREAMS: u32 = 65;
+
+pub const COMMANDS: u32 = 66;
+
+pub const PLANS: u32 = 67;
+
+pub const DIFFERENCES: u32 = 68;
+
+pub fn get(tally: &Tally, i: u32) -> u64 {
+    if i < 72 { tally[i as usize] } else { 0 }
+}
+
+// Counts so many more at a place.
+pub fn count(tally: &mut Tally, i: u32, more: usize) {
+    let sum = get(tally, i) % 1000000000000 + (more % 1000000) as u64;
+    if i < 72 {
+        tally[i as usize] = sum;
+    }
+}
+
+pub fn text(t: &[u8]) {
+    io::write_all(STDOUT_FILENO, t);
+}
+
+// Writes a text and a number after it.
+pub fn say(t: &[u8], n: u64) {
+    io::write_all(STDOUT_FILENO, t);
+    io::print_decimal(STDOUT_FILENO, n);
+}
+
+// The refusals that were met, each number with how often; those of Plan but for 'no way'.
+fn refusals(tally: &Tally, base: u32) {
+    let mut k = 1u32;
+    while k < 16 {
+        let times = get(tally, base % 64 + k);
+        if times != 0 {
+            say(b" ", k as u64);
+            say(b":", times);
+        }
+        k += 1;
+    }
+}
+
+// The line of a shape: what was compared, the refusals that were met, and how many differences there were.
+pub fn line(name: &[u8], tally: &Tally) {
+    text(name);
+    say(b": books ", get(tally, BOOKS));
+    say(b", streams ", get(tally, STREAMS));
+    say(b", commands taken ", get(tally, COMMANDS));
+    text(b", refused");
+    refusals(tally, LOAD);
+    say(b"; plans ", get(tally, PLANS));
+    say(b", no way ", get(tally, NO_WAY));
+    text(b", refused");
+    refusals(tally, PLAN);
+    say(b"; ", get(tally, DIFFERENCES));
+    text(b" differences\n");
+}
+
+// Counts a difference, and says of the first few what differs, in which stream of the shape, and at which two numbers.
+pub fn differs(tally: &mut Tally, what: &[u8], a: u32, b: u32) {
+    count(tally, DIFFERENCES, 1);
+    if get(tally, DIFFERENCES) > 20 {
+        return;
+    }
+    text(b"differs: ");
+    text(what);
+    say(b", stream ", get(tally, STREAMS));
+    say(b", at ", a as u64);
+    say(b" ", b as u64);
+    text(b"\n");
+}
