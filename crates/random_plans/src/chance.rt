@@ -1,43 +1,47 @@
 // Random numbers, always the same ones, and random places of the test's own station.
 ghost use Prim.Native.Nat.{_≤_};
+use crate::station::BELOW;
 use crate::station::LEVELS;
 use crate::station::MACHINES;
 use crate::station::NODES;
 use crate::station::NONE;
+use crate::station::OWNER;
+use crate::station::START;
 use crate::station::Station;
-use crate::station::below;
+use crate::station::get;
 use crate::station::is_state;
 use crate::station::level;
-use crate::station::owner;
-use crate::station::start;
-use crate::station::used_machine;
-use crate::station::used_node;
 
-// What is looked for among the numbers 0 to 255: nodes in use and not, of the machine that is given and of others, refined ones, states,
-// states at the level that is given and above the lowest that may be, start nodes and others; machines in use and not.
+// What is picked: nodes in use and not; in the machine of the node that is given, in another, and that node itself; refined ones; states
+// at the level that is given, and above the lowest that may be; start nodes and others; machines in use and not; and with the last two
+// one in use half of the time, else any number, some out of range.
 pub const USED: u32 = 0;
 
 pub const FREE: u32 = 1;
 
-pub const OF_MACHINE: u32 = 2;
+pub const BESIDE: u32 = 2;
 
-pub const NOT_OF_MACHINE: u32 = 3;
+pub const APART: u32 = 3;
 
-pub const REFINED: u32 = 4;
+pub const SAME: u32 = 4;
 
-pub const STATE: u32 = 5;
+pub const REFINED: u32 = 5;
 
 pub const LOWEST: u32 = 6;
 
 pub const HIGH: u32 = 7;
 
-pub const START: u32 = 8;
+pub const STARTING: u32 = 8;
 
-pub const NO_START: u32 = 9;
+pub const NOT_STARTING: u32 = 9;
 
 pub const USED_MACHINE: u32 = 10;
 
 pub const FREE_MACHINE: u32 = 11;
+
+pub const ANY: u32 = 12;
+
+pub const ANY_MACHINE: u32 = 13;
 
 // A number below n, the next of the generator; 0 where n is 0.
 pub fn draw(seed: &mut u64, n: u32) -> u32
@@ -56,36 +60,34 @@ pub fn once_in(seed: &mut u64, n: u32) -> bool {
     draw(seed, n) == 0
 }
 
-fn is_start(s: &Station, n: u32) -> bool {
-    start(s, owner(s, n)) == n
-}
-
+// Whether node n, which is in use, is what is looked for.
 fn fits_node(s: &Station, kind: u32, arg: u32, n: u32) -> bool {
+    let owner = get(s, OWNER, n);
     match kind {
-        OF_MACHINE => owner(s, n) == arg,
-        NOT_OF_MACHINE => owner(s, n) != arg,
-        REFINED => below(s, n) != NONE,
-        STATE => is_state(s, n),
+        BESIDE => owner == get(s, OWNER, arg),
+        APART => owner != get(s, OWNER, arg),
+        SAME => n == arg,
+        REFINED => !is_state(s, n),
         LOWEST => is_state(s, n) && level(s, n) == arg,
         HIGH => is_state(s, n) && level(s, n) < LEVELS,
-        START => is_start(s, n),
-        NO_START => !is_start(s, n),
+        STARTING => get(s, START, owner) == n,
+        NOT_STARTING => get(s, START, owner) != n,
         _ => true,
     }
 }
 
 // Whether number k is what is looked for.
 fn fits(s: &Station, kind: u32, arg: u32, k: u32) -> bool {
-    if kind == USED_MACHINE {
-        return used_machine(s, k);
+    if kind == USED_MACHINE || kind == ANY_MACHINE {
+        return get(s, START, k) != NONE;
     }
     if kind == FREE_MACHINE {
-        return k < MACHINES && !used_machine(s, k);
+        return k < MACHINES && get(s, START, k) == NONE;
     }
     if kind == FREE {
-        return !used_node(s, k);
+        return get(s, OWNER, k) == NONE;
     }
-    used_node(s, k) && fits_node(s, kind, arg, k)
+    get(s, OWNER, k) != NONE && fits_node(s, kind, arg, k)
 }
 
 // The next number to try: random ones first, then all in turn.
@@ -98,6 +100,9 @@ fn next(seed: &mut u64, k: u32, tried: u32) -> u32 {
 
 // A random number of a kind; any number where there is none.
 pub fn pick(s: &Station, seed: &mut u64, kind: u32, arg: u32) -> u32 {
+    if kind >= ANY && once_in(seed, 2) {
+        return draw(seed, if kind == ANY { 300 } else { 68 });
+    }
     let mut k = draw(seed, NODES);
     let mut tried = 0u32;
     while tried < 600 {
@@ -108,12 +113,4 @@ pub fn pick(s: &Station, seed: &mut u64, kind: u32, arg: u32) -> u32 {
         tried += 1;
     }
     k
-}
-
-// A node in use half of the time, else any, some out of range.
-pub fn any_node(s: &Station, seed: &mut u64) -> u32 {
-    if once_in(seed, 2) {
-        return pick(s, seed, USED, 0);
-    }
-    draw(seed, 300)
 }

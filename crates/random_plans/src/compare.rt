@@ -4,23 +4,23 @@ use crate::flat::Moved;
 use crate::flat::plus;
 use crate::flat::reached;
 use crate::flat::step;
-use crate::station::COMMANDS;
+use crate::station::BELOW;
+use crate::station::COST;
+use crate::station::HOLDER;
 use crate::station::MACHINES;
+use crate::station::MARK;
 use crate::station::NODES;
 use crate::station::NONE;
+use crate::station::OWNER;
+use crate::station::ROOT;
+use crate::station::START;
 use crate::station::Station;
+use crate::station::TARGET;
 use crate::station::any_marked;
-use crate::station::below;
-use crate::station::cost;
-use crate::station::holder;
+use crate::station::get;
 use crate::station::is_state;
-use crate::station::mark;
-use crate::station::owner;
-use crate::station::root;
-use crate::station::start;
 use crate::station::states;
-use crate::station::target;
-use crate::station::used_node;
+use crate::station::transition;
 use crate::stream;
 use crate::stream::Bytes;
 use crate::stream::Counts;
@@ -32,10 +32,8 @@ use crate::tally::PLANS;
 use crate::tally::STREAMS;
 use crate::tally::Tally;
 use crate::tally::count;
-use crate::tally::count_refusal;
 use crate::tally::differs;
 use planning::PlanAnswer;
-use stepping::StepAnswer;
 
 pub type Book = [u32; 4737];
 
@@ -52,8 +50,8 @@ pub struct Answer {
 
 // The word that document 01 gives a transition of the own station.
 fn transition_word(s: &Station, n: u32, x: u32) -> u32 {
-    let v = target(s, n, x);
-    let c = cost(s, n, x);
+    let v = transition(s, TARGET, n, x);
+    let c = transition(s, COST, n, x);
     if v >= NODES {
         return 4294967295;
     }
@@ -63,28 +61,21 @@ fn transition_word(s: &Station, n: u32, x: u32) -> u32 {
     65536 * v + c
 }
 
-fn node_word(s: &Station, n: u32, field: u32) -> u32 {
-    if field == 0 {
-        return owner(s, n);
-    }
-    if field == 1 {
-        return below(s, n);
-    }
-    transition_word(s, n, field - 2)
-}
-
 // The word that document 01 has at a place of the own station's book.
 fn word(s: &Station, i: u32) -> u32 {
     if i == 0 {
-        return root(s);
+        return get(s, ROOT, 0);
     }
-    if i >= 129 {
-        return node_word(s, (i - 129) / 18, (i - 129) % 18);
+    if i < 129 {
+        let field = if i % 2 == 1 { HOLDER } else { START };
+        return get(s, field, (i - 1) / 2);
     }
-    if i % 2 == 1 {
-        return holder(s, (i - 1) / 2);
+    let n = (i - 129) / 18;
+    let k = (i - 129) % 18;
+    if k >= 2 {
+        return transition_word(s, n, k - 2);
     }
-    start(s, (i - 1) / 2)
+    get(s, if k == 0 { OWNER } else { BELOW }, n)
 }
 
 fn compare_book(book: &Book, s: &Station, tally: &mut Tally) {
@@ -101,7 +92,7 @@ fn compare_marks(sheet: &Sheet, s: &Station, tally: &mut Tally) {
     let mut m = 0u32;
     while m < MACHINES {
         let i = 33 * (m as usize);
-        if sheet[i] != mark(s, m) {
+        if sheet[i] != get(s, MARK, m) {
             differs(tally, b"mark", m, sheet[i]);
         }
         m += 1;
@@ -112,27 +103,6 @@ fn compare_marks(sheet: &Sheet, s: &Station, tally: &mut Tally) {
 pub fn compare_words(book: &Book, sheet: &Sheet, s: &Station, tally: &mut Tally) {
     compare_book(book, s, tally);
     compare_marks(sheet, s, tally);
-}
-
-fn small(n: usize) -> u32 {
-    (n % 65536) as u32
-}
-
-fn compare_counts(own: Counts, got: Counts, tally: &mut Tally) {
-    if own.bytes != got.bytes {
-        differs(tally, b"bytes taken", small(own.bytes), small(got.bytes));
-    }
-    if own.commands != got.commands {
-        differs(
-            tally,
-            b"commands taken",
-            small(own.commands),
-            small(got.commands),
-        );
-    }
-    if own.number != got.number {
-        differs(tally, b"refusal", own.number, got.number);
-    }
 }
 
 // Load on the stream's front.
@@ -164,33 +134,12 @@ pub fn load_both(
     count(tally, STREAMS, 1);
     let own = stream::run(s, stream, length);
     count(tally, tally::COMMANDS, own.commands);
-    count_refusal(tally, LOAD, own.number);
-    compare_counts(own, load_front(book, sheet, stream, length), tally);
+    count(tally, LOAD + own.number % 32, 1);
+    let got = load_front(book, sheet, stream, length);
+    if own.bytes != got.bytes || own.commands != got.commands || own.number != got.number {
+        differs(tally, b"counts", own.number, got.number);
+    }
     compare_words(book, sheet, s, tally);
-}
-
-// Step at a state by a command: where it leads and what it costs; "none" where the station stops.
-fn book_step(book: &Book, n: u32, x: u32) -> Moved {
-    match stepping::step(book, n, x) {
-        StepAnswer::Moved { state, cost } => Moved { state, cost },
-        StepAnswer::Refused(number) => Moved {
-            state: NONE,
-            cost: number,
-        },
-    }
-}
-
-// Step by every command at a state; 17 is the refusal where the own station stops.
-pub fn compare_steps(book: &Book, s: &Station, n: u32, tally: &mut Tally) {
-    let mut x = 0u32;
-    while x < COMMANDS {
-        let own = step(s, n, x);
-        let got = book_step(book, n, x);
-        if own.state != got.state || own.cost != got.cost {
-            differs(tally, b"step", n, x);
-        }
-        x += 1;
-    }
 }
 
 // Plan with so many bytes of a buffer lent.
@@ -243,7 +192,7 @@ fn plan_refusal(s: &Station, a: u32, b: u32, room: u32) -> u32 {
     if a >= NODES || b >= NODES {
         return 6;
     }
-    if !used_node(s, a) || !used_node(s, b) {
+    if get(s, OWNER, a) == NONE || get(s, OWNER, b) == NONE {
         return 7;
     }
     if !is_state(s, a) || !is_state(s, b) {
@@ -319,12 +268,9 @@ fn compare_refusal(
     b: u32,
     tally: &mut Tally,
 ) {
-    count_refusal(tally, PLAN, number);
-    if answer.number != number {
+    count(tally, PLAN + number % 32, 1);
+    if answer.number != number || !untouched(buffer, 0) {
         differs(tally, b"refusal of a plan", a, b);
-    }
-    if !untouched(buffer, 0) {
-        differs(tally, b"buffer of a refused plan", a, b);
     }
 }
 
@@ -338,21 +284,12 @@ fn compare_way(
     b: u32,
     tally: &mut Tally,
 ) {
-    if answer.number != 0 {
-        differs(tally, b"way refused", a, b);
-        return;
-    }
-    if answer.cost != least {
-        differs(tally, b"cost", a, b);
-    }
     let end = walk(s, buffer, a, answer.count);
-    if end.state != b {
+    if answer.number != 0 || answer.cost != least {
+        differs(tally, b"cost", a, b);
+    } else if end.state != b || end.cost != least {
         differs(tally, b"way", a, b);
-    }
-    if end.cost != least {
-        differs(tally, b"cost of the way", a, b);
-    }
-    if !untouched(buffer, answer.count) {
+    } else if !untouched(buffer, answer.count) {
         differs(tally, b"buffer after the way", a, b);
     }
 }

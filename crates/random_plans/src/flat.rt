@@ -1,16 +1,18 @@
 // A flat search on the test's own station: its states, a move for each state and command, and Dijkstra's search from a state. It knows no
 // machines but for the step, no exit costs and no sheet.
+use crate::station::BELOW;
 use crate::station::COMMANDS;
+use crate::station::COST;
 use crate::station::LEVELS;
 use crate::station::NODES;
 use crate::station::NONE;
+use crate::station::START;
 use crate::station::Station;
+use crate::station::TARGET;
 use crate::station::above;
-use crate::station::below;
-use crate::station::cost;
+use crate::station::get;
 use crate::station::is_state;
-use crate::station::start;
-use crate::station::target;
+use crate::station::transition;
 
 // The cost of a state that is not reached.
 pub const FAR: u32 = 4294967295;
@@ -18,7 +20,7 @@ pub const FAR: u32 = 4294967295;
 // For each state and command the state that it leads to, and from 4096 on what that costs.
 pub type Moves = [u32; 8192];
 
-// Where a command leads and what it costs; "none" and 17 where the station stops.
+// Where a command leads and what it costs; "none" where the station stops.
 pub struct Moved {
     pub state: u32,
     pub cost: u32,
@@ -29,10 +31,11 @@ fn enter(s: &Station, n: u32) -> u32 {
     let mut at = n;
     let mut i = 0u32;
     while i < LEVELS {
-        if below(s, at) == NONE {
+        let m = get(s, BELOW, at);
+        if m == NONE {
             return at;
         }
-        at = start(s, below(s, at));
+        at = get(s, START, m);
         i += 1;
     }
     at
@@ -43,7 +46,7 @@ fn lowest(s: &Station, n: u32, x: u32) -> u32 {
     let mut at = n;
     let mut i = 0u32;
     while i < LEVELS {
-        if target(s, at, x) != NONE {
+        if transition(s, TARGET, at, x) != NONE {
             return at;
         }
         at = above(s, at);
@@ -58,12 +61,12 @@ pub fn step(s: &Station, n: u32, x: u32) -> Moved {
     if at == NONE {
         return Moved {
             state: NONE,
-            cost: 17,
+            cost: 0,
         };
     }
     Moved {
-        state: enter(s, target(s, at, x)),
-        cost: cost(s, at, x),
+        state: enter(s, transition(s, TARGET, at, x)),
+        cost: transition(s, COST, at, x),
     }
 }
 

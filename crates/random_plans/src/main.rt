@@ -11,15 +11,15 @@ mod station;
 mod stream;
 mod tally;
 
-use chance::any_node;
+use chance::ANY;
 use chance::draw;
 use chance::once_in;
+use chance::pick;
 use compare::Book;
 use compare::Sheet;
 use compare::ask;
 use compare::compare_no;
 use compare::compare_plan;
-use compare::compare_steps;
 use compare::compare_words;
 use compare::load_both;
 use compare::longest;
@@ -34,7 +34,7 @@ use stream::Bytes;
 use tally::Tally;
 use tally::count;
 use tally::line;
-use tally::number;
+use tally::say;
 use tally::text;
 
 // Opens the holding and the own station, and compares them.
@@ -44,19 +44,12 @@ fn open(book: &mut Book, sheet: &mut Sheet, s: &mut Station, ladder: bool, tally
         edits::open_ladder(s);
     } else {
         opening::open_fresh(book, sheet);
-        edits::open_fresh(s);
+        edits::begin(s, 0, 0);
     }
     compare_words(book, sheet, s, tally);
 }
 
-// Refreshes where a machine is marked.
-fn refresh(book: &mut Book, sheet: &mut Sheet, s: &mut Station, tally: &mut Tally) {
-    if any_marked(s) {
-        load_both(book, sheet, s, &[0x18u8; 8192], 1, tally);
-    }
-}
-
-// Steps from a state by all commands, and plans from it to all states.
+// Plans from a state to all states.
 fn plan_from(
     book: &Book,
     sheet: &Sheet,
@@ -68,7 +61,6 @@ fn plan_from(
 ) {
     let mut costs = [0u32; 256];
     flat::distances(moves, a, &mut costs);
-    compare_steps(book, s, a, tally);
     let mut b = 0u32;
     while b < NODES {
         if is_state(s, b) {
@@ -119,12 +111,29 @@ fn odd_room(s: &Station, seed: &mut u64) -> u32 {
 fn plan_odd(book: &Book, sheet: &Sheet, s: &Station, seed: &mut u64, tally: &mut Tally) {
     let mut i = 0u32;
     while i < 6 {
-        let a = any_node(s, seed);
-        let b = any_node(s, seed);
+        let a = pick(s, seed, ANY, 0);
+        let b = pick(s, seed, ANY, 0);
         let room = odd_room(s, seed);
         compare_no(book, sheet, s, a, b, room, tally);
         i += 1;
     }
+}
+
+// Plans in the holding that a stream leaves: while machines are marked, and after a refresh.
+fn plan_after(
+    book: &mut Book,
+    sheet: &mut Sheet,
+    s: &mut Station,
+    seed: &mut u64,
+    sources: u32,
+    tally: &mut Tally,
+) {
+    plan_odd(book, sheet, s, seed, tally);
+    if any_marked(s) {
+        load_both(book, sheet, s, &[0x18u8; 8192], 1, tally);
+        plan_odd(book, sheet, s, seed, tally);
+    }
+    plan_all(book, sheet, s, seed, sources, tally);
 }
 
 // Loads single commands that are most likely refused.
@@ -158,10 +167,7 @@ fn run_stream(
     let mut bytes = [0u8; 8192];
     let length = making::stream(&mut next, seed, shape, first, &mut bytes);
     load_both(book, sheet, s, &bytes, length, tally);
-    plan_odd(book, sheet, s, seed, tally);
-    refresh(book, sheet, s, tally);
-    plan_odd(book, sheet, s, seed, tally);
-    plan_all(book, sheet, s, seed, of(shape, shapes::SOURCES), tally);
+    plan_after(book, sheet, s, seed, of(shape, shapes::SOURCES), tally);
     run_singles(book, sheet, s, seed, tally);
 }
 
@@ -192,7 +198,7 @@ fn run_book(
 fn run_shape(name: &[u8], shape: u32) {
     let mut book = [0u32; 4737];
     let mut sheet = [0u32; 2880];
-    let mut s = [0u32; 8960];
+    let mut s = [0u32; 9728];
     let mut tally = [0u64; 72];
     let mut seed = 20250101 + shape as u64;
     open(&mut book, &mut sheet, &mut s, false, &mut tally);
@@ -224,18 +230,15 @@ fn show_plan(name: &[u8], book: &Book, sheet: &Sheet, b: u32, room: u32) {
     let answer = ask(book, sheet, 0, b, &mut buffer, room);
     text(name);
     if answer.number != 0 {
-        text(b" no ");
-        number(answer.number as u64);
+        say(b" no ", answer.number as u64);
     } else {
-        text(b" ");
-        number(answer.cost as u64);
-        text(b" ");
-        number(answer.count as u64);
+        say(b" ", answer.cost as u64);
+        say(b" ", answer.count as u64);
     }
     text(b"\n");
 }
 
-// Loads a stream into a holding opened fresh, refreshes, and plans from about so many states to all states.
+// Loads a stream into a holding opened fresh, and plans from about so many states to all states.
 fn run_given(
     stream: &Bytes,
     length: usize,
@@ -244,13 +247,12 @@ fn run_given(
     sheet: &mut Sheet,
     tally: &mut Tally,
 ) {
-    let mut s = [0u32; 8960];
+    let mut s = [0u32; 9728];
     let mut seed = 1u64;
     count(tally, tally::BOOKS, 1);
     open(book, sheet, &mut s, false, tally);
     load_both(book, sheet, &mut s, stream, length, tally);
-    refresh(book, sheet, &mut s, tally);
-    plan_all(book, sheet, &s, &mut seed, sources, tally);
+    plan_after(book, sheet, &mut s, &mut seed, sources, tally);
 }
 
 // The longest line: the dearest plan that there can be fills the buffer.

@@ -1,7 +1,19 @@
 // Random streams. Each command is made for the station that the commands before it leave, so that most are taken; some are wrong on
 // purpose, and what follows them is made all the same.
-use crate::chance;
-use crate::chance::any_node;
+use crate::chance::ANY;
+use crate::chance::ANY_MACHINE;
+use crate::chance::APART;
+use crate::chance::BESIDE;
+use crate::chance::FREE;
+use crate::chance::FREE_MACHINE;
+use crate::chance::HIGH;
+use crate::chance::LOWEST;
+use crate::chance::NOT_STARTING;
+use crate::chance::REFINED;
+use crate::chance::SAME;
+use crate::chance::STARTING;
+use crate::chance::USED;
+use crate::chance::USED_MACHINE;
 use crate::chance::draw;
 use crate::chance::once_in;
 use crate::chance::pick;
@@ -10,38 +22,46 @@ use crate::shapes::of;
 use crate::station::NODES;
 use crate::station::Station;
 use crate::station::depth;
-use crate::station::owner;
 use crate::stream::Bytes;
 use crate::stream::Order;
 use crate::stream::new_order;
 use crate::stream::take;
 
-// The kinds of commands.
-const BEGIN: u32 = 0;
+// A kind of command: its opcode, and which machine, node and other node are picked for it.
+type Kind = [u32; 4];
 
-const ADD: u32 = 1;
+const BEGIN: Kind = [0x10, FREE_MACHINE, FREE, USED];
 
-const REFINE: u32 = 2;
+const ADD: Kind = [0x11, USED_MACHINE, FREE, USED];
 
-const DEEPEN: u32 = 3;
+const REFINE: Kind = [0x12, FREE_MACHINE, HIGH, FREE];
 
-const REMOVE: u32 = 4;
+const DEEPEN: Kind = [0x12, FREE_MACHINE, LOWEST, FREE];
 
-const ARROW: u32 = 5;
+const REMOVE: Kind = [0x13, USED_MACHINE, NOT_STARTING, USED];
 
-const SELF: u32 = 6;
+const ARROW: Kind = [0x14, USED_MACHINE, USED, BESIDE];
 
-const CLEAR: u32 = 7;
+const SELF: Kind = [0x14, USED_MACHINE, REFINED, SAME];
 
-const RESTART: u32 = 8;
+const CLEAR: Kind = [0x15, USED_MACHINE, USED, USED];
 
-const CROWN: u32 = 9;
+const RESTART: Kind = [0x16, USED_MACHINE, USED, USED];
 
-const REFRESH: u32 = 10;
+const CROWN: Kind = [0x17, FREE_MACHINE, FREE, USED];
 
-const WRONG: u32 = 11;
+const REFRESH: Kind = [0x18, USED_MACHINE, USED, USED];
 
-const ANY: u32 = 12;
+// Kinds that are refused: a node refined again, a start node removed, a transition into another machine, unknown opcodes.
+const REFINE_AGAIN: Kind = [0x12, FREE_MACHINE, REFINED, FREE];
+
+const REMOVE_START: Kind = [0x13, USED_MACHINE, STARTING, USED];
+
+const ARROW_APART: Kind = [0x14, USED_MACHINE, USED, APART];
+
+const BELOW_KNOWN: Kind = [0x0F, USED_MACHINE, USED, USED];
+
+const ABOVE_KNOWN: Kind = [0x19, USED_MACHINE, USED, USED];
 
 // Writes a byte, and gives the place after it; a full stream stays as it is.
 fn put(stream: &mut Bytes, at: usize, b: u32) -> usize {
@@ -58,15 +78,10 @@ fn put_pair(stream: &mut Bytes, at: usize, w: u32) -> usize {
     put(stream, next, w)
 }
 
-// Writes a machine and a node, and the other way round.
-fn put_machine_node(stream: &mut Bytes, at: usize, m: u32, n: u32) -> usize {
-    let next = put(stream, at, m);
-    put_pair(stream, next, n)
-}
-
-fn put_node_machine(stream: &mut Bytes, at: usize, n: u32, m: u32) -> usize {
+// Writes a node, and then a machine or a command.
+fn put_both(stream: &mut Bytes, at: usize, n: u32, b: u32) -> usize {
     let next = put_pair(stream, at, n);
-    put(stream, next, m)
+    put(stream, next, b)
 }
 
 // Writes a command; of an unknown one only the opcode.
@@ -74,58 +89,23 @@ fn write(stream: &mut Bytes, at: usize, o: Order) -> usize {
     let op = o.op;
     let a = put(stream, at, op);
     match op {
-        0x10 | 0x11 | 0x17 => put_machine_node(stream, a, o.machine, o.node),
+        0x10 | 0x11 | 0x17 => {
+            let b = put(stream, a, o.machine);
+            put_pair(stream, b, o.node)
+        }
         0x12 => {
-            let b = put_node_machine(stream, a, o.node, o.machine);
+            let b = put_both(stream, a, o.node, o.machine);
             put_pair(stream, b, o.other)
         }
         0x13 | 0x16 => put_pair(stream, a, o.node),
         0x14 => {
-            let b = put_node_machine(stream, a, o.node, o.command);
+            let b = put_both(stream, a, o.node, o.command);
             let c = put_pair(stream, b, o.other);
             put_pair(stream, c, o.cost)
         }
-        0x15 => put_node_machine(stream, a, o.node, o.command),
+        0x15 => put_both(stream, a, o.node, o.command),
         _ => a,
     }
-}
-
-// A new machine with a new node.
-fn make_new(s: &Station, seed: &mut u64, op: u32) -> Order {
-    let m = pick(s, seed, chance::FREE_MACHINE, 0);
-    let n = pick(s, seed, chance::FREE, 0);
-    new_order(op, m, n, 0, 0, 0)
-}
-
-fn make_add(s: &Station, seed: &mut u64) -> Order {
-    let m = pick(s, seed, chance::USED_MACHINE, 0);
-    let n = pick(s, seed, chance::FREE, 0);
-    new_order(0x11, m, n, 0, 0, 0)
-}
-
-// Refines a node of a kind with new numbers.
-fn make_refine(s: &Station, seed: &mut u64, kind: u32) -> Order {
-    let n = pick(s, seed, kind, depth(s));
-    let new = make_new(s, seed, 0x12);
-    new_order(0x12, new.machine, n, new.node, 0, 0)
-}
-
-// A command about a node of a kind: remove, clear or start.
-fn make_on(s: &Station, seed: &mut u64, op: u32, kind: u32, symbols: u32) -> Order {
-    let n = pick(s, seed, kind, 0);
-    new_order(op, 0, n, 0, draw(seed, symbols), 0)
-}
-
-// A transition within a machine, from a node of a kind; of a refined node to itself.
-fn make_arrow(s: &Station, seed: &mut u64, shape: u32, kind: u32) -> Order {
-    let n = pick(s, seed, kind, 0);
-    let v = if kind == chance::REFINED {
-        n
-    } else {
-        pick(s, seed, chance::OF_MACHINE, owner(s, n))
-    };
-    let x = draw(seed, of(shape, shapes::SYMBOLS));
-    new_order(0x14, 0, n, v, x, random_cost(seed, shape))
 }
 
 // Some costs are 0, some the shape's largest, the rest anything between.
@@ -140,90 +120,50 @@ fn random_cost(seed: &mut u64, shape: u32) -> u32 {
     draw(seed, most)
 }
 
-// An opcode below 0x10 or above 0x18.
-fn wrong_opcode(seed: &mut u64) -> u32 {
-    if once_in(seed, 2) {
-        return draw(seed, 16);
-    }
-    0x19 + draw(seed, 231)
+// A command of a kind, with one of so many symbols where it has one.
+fn make(s: &Station, seed: &mut u64, shape: u32, kind: Kind, symbols: u32) -> Order {
+    let m = pick(s, seed, kind[1], 0);
+    let n = pick(s, seed, kind[2], depth(s));
+    let v = pick(s, seed, kind[3], n);
+    let x = draw(seed, symbols);
+    new_order(kind[0], m, n, v, x, random_cost(seed, shape))
 }
 
-// A transition into another machine, where there is one.
-fn wrong_target(s: &Station, seed: &mut u64) -> Order {
-    let n = pick(s, seed, chance::USED, 0);
-    let v = pick(s, seed, chance::NOT_OF_MACHINE, owner(s, n));
-    new_order(0x14, 0, n, v, 0, 1)
-}
-
-// A machine in use half of the time, else any, some out of range.
-fn any_machine(s: &Station, seed: &mut u64) -> u32 {
-    if once_in(seed, 2) {
-        return pick(s, seed, chance::USED_MACHINE, 0);
-    }
-    draw(seed, 68)
-}
-
-// Any command but begin and refresh with such numbers, in which several things may be wrong at once.
-fn make_odd(s: &Station, seed: &mut u64) -> Order {
-    let m = any_machine(s, seed);
-    let n = any_node(s, seed);
-    let v = any_node(s, seed);
-    let x = draw(seed, 18);
-    new_order(0x11 + draw(seed, 7), m, n, v, x, 1)
-}
-
-// A command that is refused, or would be in most stations.
-fn make_wrong(s: &Station, seed: &mut u64) -> Order {
-    let kind = draw(seed, 8);
-    match kind {
-        0 => new_order(wrong_opcode(seed), 0, 0, 0, 0, 0),
-        1 => new_order(0x13, 0, NODES + draw(seed, 65279), 0, 0, 0),
-        2 => make_refine(s, seed, chance::REFINED),
-        3 => make_refine(s, seed, chance::LOWEST),
-        4 => make_on(s, seed, 0x13, chance::START, 1),
-        5 => make_on(s, seed, 0x15, chance::USED, 256),
-        6 => wrong_target(s, seed),
-        _ => make_odd(s, seed),
-    }
-}
-
-// A command of a kind.
-fn make(s: &Station, seed: &mut u64, shape: u32, kind: u32) -> Order {
-    match kind {
-        BEGIN => make_new(s, seed, 0x10),
-        ADD => make_add(s, seed),
-        REFINE => make_refine(s, seed, chance::HIGH),
-        DEEPEN => make_refine(s, seed, chance::LOWEST),
-        REMOVE => make_on(s, seed, 0x13, chance::NO_START, 1),
-        ARROW => make_arrow(s, seed, shape, chance::USED),
-        SELF => make_arrow(s, seed, shape, chance::REFINED),
-        CLEAR => make_on(s, seed, 0x15, chance::USED, of(shape, shapes::SYMBOLS)),
-        RESTART => make_on(s, seed, 0x16, chance::USED, 1),
-        CROWN => make_new(s, seed, 0x17),
-        WRONG => make_wrong(s, seed),
-        _ => new_order(0x18, 0, 0, 0, 0, 0),
+// A kind for a command that is refused, or would be in most stations; in the last several things may be wrong at once.
+fn wrong_kind(seed: &mut u64) -> Kind {
+    let k = draw(seed, 12);
+    match k {
+        0 => REFINE_AGAIN,
+        1 => REMOVE_START,
+        2 => ARROW_APART,
+        3 => DEEPEN,
+        4 => BELOW_KNOWN,
+        5 => ABOVE_KNOWN,
+        _ => [0x11 + draw(seed, 7), ANY_MACHINE, ANY, ANY],
     }
 }
 
 // A kind for a random command; the numbers say how often each comes.
-fn any_kind(seed: &mut u64, shape: u32) -> u32 {
-    if of(shape, shapes::CHURN) == 1 {
-        if once_in(seed, 80) {
-            return BEGIN;
-        }
-    }
-    let k = draw(seed, 32);
+fn any_kind(seed: &mut u64, shape: u32) -> Kind {
+    let k = draw(seed, 64);
     match k {
-        0..=3 => ADD,
-        4..=5 => REFINE,
-        6 => DEEPEN,
-        7..=8 => REMOVE,
-        9..=10 => SELF,
-        11..=13 => CLEAR,
-        14..=15 => RESTART,
-        16 => CROWN,
-        17 => REFRESH,
-        18 => WRONG,
+        0 => {
+            if of(shape, shapes::CHURN) == 1 {
+                BEGIN
+            } else {
+                ARROW
+            }
+        }
+        1..=8 => ADD,
+        9..=12 => REFINE,
+        13..=14 => DEEPEN,
+        15..=18 => REMOVE,
+        19..=22 => SELF,
+        23..=28 => CLEAR,
+        29..=32 => RESTART,
+        33..=34 => CROWN,
+        35..=36 => REFRESH,
+        37..=38 => wrong_kind(seed),
         _ => ARROW,
     }
 }
@@ -233,61 +173,53 @@ fn extend(
     s: &mut Station,
     seed: &mut u64,
     shape: u32,
-    kind: u32,
+    kind: Kind,
     stream: &mut Bytes,
     at: usize,
 ) -> usize {
     if at >= 8184 {
         return at;
     }
-    let made = make(s, seed, shape, kind);
+    let made = make(s, seed, shape, kind, of(shape, shapes::SYMBOLS));
     let end = write(stream, at, made);
     take(s, stream, end, at);
     end
 }
 
-// Writes so many commands of a kind.
+// Writes so many commands of a kind, as a column of the shape says.
 fn repeat(
     s: &mut Station,
     seed: &mut u64,
     shape: u32,
-    kind: u32,
-    count: u32,
+    kind: Kind,
+    column: u32,
     stream: &mut Bytes,
     at: usize,
 ) -> usize {
+    let count = of(shape, column);
     let mut end = at;
     let mut i = 0u32;
     while i < count {
-        let next = if kind == ANY {
-            any_kind(seed, shape)
-        } else {
-            kind
-        };
-        end = extend(s, seed, shape, next, stream, end);
+        end = extend(s, seed, shape, kind, stream, end);
         i += 1;
     }
     end
 }
 
-// Writes the stream that builds a book of a shape, and gives its length.
+// Writes the stream that builds a book of a shape, and gives its length. The ladder is built on.
 fn build(s: &mut Station, seed: &mut u64, shape: u32, stream: &mut Bytes) -> usize {
-    let first = 1 - of(shape, shapes::LADDER) % 2;
-    let a = repeat(s, seed, shape, BEGIN, first, stream, 0);
-    let b = repeat(s, seed, shape, ADD, of(shape, shapes::WIDE), stream, a);
-    let c = repeat(s, seed, shape, DEEPEN, of(shape, shapes::DEEP), stream, b);
-    let d = repeat(
-        s,
-        seed,
-        shape,
-        REFINE,
-        of(shape, shapes::REFINED),
-        stream,
-        c,
-    );
-    let e = repeat(s, seed, shape, ADD, of(shape, shapes::MORE), stream, d);
-    let f = repeat(s, seed, shape, ARROW, of(shape, shapes::ARROWS), stream, e);
-    repeat(s, seed, shape, SELF, of(shape, shapes::SELVES), stream, f)
+    let ladder = of(shape, shapes::LADDER) == 1;
+    let a = if ladder {
+        0
+    } else {
+        extend(s, seed, shape, BEGIN, stream, 0)
+    };
+    let b = repeat(s, seed, shape, ADD, shapes::WIDE, stream, a);
+    let c = repeat(s, seed, shape, DEEPEN, shapes::DEEP, stream, b);
+    let d = repeat(s, seed, shape, REFINE, shapes::REFINED, stream, c);
+    let e = repeat(s, seed, shape, ADD, shapes::MORE, stream, d);
+    let f = repeat(s, seed, shape, ARROW, shapes::ARROWS, stream, e);
+    repeat(s, seed, shape, SELF, shapes::SELVES, stream, f)
 }
 
 // The length of a stream that is now and then cut short by a byte.
@@ -303,18 +235,21 @@ fn cut(seed: &mut u64, length: usize) -> usize {
 
 // Writes a stream of random commands, and gives its length.
 fn mix(s: &mut Station, seed: &mut u64, shape: u32, stream: &mut Bytes) -> usize {
-    let end = repeat(s, seed, shape, ANY, of(shape, shapes::COMMANDS), stream, 0);
+    let count = of(shape, shapes::COMMANDS);
+    let mut end = 0usize;
+    let mut i = 0u32;
+    while i < count {
+        let kind = any_kind(seed, shape);
+        end = extend(s, seed, shape, kind, stream, end);
+        i += 1;
+    }
     cut(seed, end)
 }
 
 // Writes a stream of one command, which is most likely refused, and gives its length.
 pub fn single(s: &Station, seed: &mut u64, bytes: &mut Bytes) -> usize {
-    let wrong = once_in(seed, 2);
-    let made = if wrong {
-        make_wrong(s, seed)
-    } else {
-        make_odd(s, seed)
-    };
+    let kind = wrong_kind(seed);
+    let made = make(s, seed, 0, kind, 18);
     let end = write(bytes, 0, made);
     cut(seed, end)
 }

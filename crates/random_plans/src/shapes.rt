@@ -50,20 +50,24 @@ const CROWDED_BOOKS: Row = [0, 500, 2, 16, 3, 2, 20, 3, 20, 5, 54, 160, 750, 40,
 // Small books, with many streams each.
 const EDITED_BOOKS: Row = [0, 50, 2, 8, 12, 8, 30, 40, 2, 1, 1, 4, 30, 3, 1];
 
+const TABLE: [Row; 8] = [
+    DEEP_BOOKS,
+    WIDE_BOOKS,
+    ZERO_BOOKS,
+    SPARSE_BOOKS,
+    SELF_BOOKS,
+    LADDER_BOOKS,
+    CROWDED_BOOKS,
+    EDITED_BOOKS,
+];
+
 // What a shape has in a column.
 pub fn of(shape: u32, column: u32) -> u32 {
+    if shape >= 8 {
+        return 0;
+    }
     if column >= 15 {
         return 0;
     }
-    let c = column as usize;
-    match shape {
-        0 => DEEP_BOOKS[c],
-        1 => WIDE_BOOKS[c],
-        2 => ZERO_BOOKS[c],
-        3 => SPARSE_BOOKS[c],
-        4 => SELF_BOOKS[c],
-        5 => LADDER_BOOKS[c],
-        6 => CROWDED_BOOKS[c],
-        _ => EDITED_BOOKS[c],
-    }
+    TABLE[shape as usize][column as usize]
 }

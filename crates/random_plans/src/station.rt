@@ -1,6 +1,4 @@
-// The test's own station: one tree in a list of words, laid out in a way of its own. Nothing here reads a word of a book or a sheet. A
-// number out of range has every field "none", and writing to it changes nothing.
-
+// The test's own station: one tree in a list of words, laid out in a way of its own. Nothing here reads a word of a book or a sheet.
 ghost use Prim.Native.Nat.{_≤_};
 
 pub const NODES: u32 = 256;
@@ -13,147 +11,62 @@ pub const LEVELS: u32 = 8;
 
 pub const NONE: u32 = 65535;
 
-// Where each field begins; the owners stand first.
-const BELOW: usize = 256;
+// The fields, with a word for each node or machine: owner and machine below of a node, start, holder and mark of a machine; the root at 0 of
+// its field; and for each command a field of targets and one of costs.
+pub const OWNER: u32 = 0;
 
-const START: usize = 512;
+pub const BELOW: u32 = 1;
 
-const HOLDER: usize = 576;
+pub const START: u32 = 2;
 
-const MARK: usize = 640;
+pub const HOLDER: u32 = 3;
 
-const ROOT: usize = 704;
+pub const MARK: u32 = 4;
 
-const TARGET: usize = 768;
+pub const ROOT: u32 = 5;
 
-const COST: usize = 4864;
+pub const TARGET: u32 = 6;
 
-pub type Station = [u32; 8960];
+pub const COST: u32 = 22;
 
-pub fn owner(s: &Station, n: u32) -> u32 {
-    if n < NODES { s[n as usize] } else { NONE }
-}
+pub type Station = [u32; 9728];
 
-pub fn below(s: &Station, n: u32) -> u32 {
-    if n < NODES {
-        s[BELOW + n as usize]
-    } else {
-        NONE
-    }
-}
-
-pub fn start(s: &Station, m: u32) -> u32 {
-    if m < MACHINES {
-        s[START + m as usize]
-    } else {
-        NONE
-    }
-}
-
-pub fn holder(s: &Station, m: u32) -> u32 {
-    if m < MACHINES {
-        s[HOLDER + m as usize]
-    } else {
-        NONE
-    }
-}
-
-pub fn mark(s: &Station, m: u32) -> u32 {
-    if m < MACHINES {
-        s[MARK + m as usize]
-    } else {
-        NONE
-    }
-}
-
-pub fn root(s: &Station) -> u32 {
-    s[ROOT]
-}
-
-pub fn target(s: &Station, n: u32, x: u32) -> u32 {
-    if n >= NODES {
+// What a field has at a number; "none" outside.
+pub fn get(s: &Station, field: u32, i: u32) -> u32 {
+    if field >= 38 {
         return NONE;
     }
-    if x >= COMMANDS {
+    if i >= NODES {
         return NONE;
     }
-    s[TARGET + 16 * (n as usize) + x as usize]
+    s[256 * (field as usize) + i as usize]
 }
 
-pub fn cost(s: &Station, n: u32, x: u32) -> u32 {
-    if n >= NODES {
-        return NONE;
-    }
-    if x >= COMMANDS {
-        return NONE;
-    }
-    s[COST + 16 * (n as usize) + x as usize]
-}
-
-pub fn set_owner(s: &mut Station, n: u32, m: u32) {
-    if n < NODES {
-        s[n as usize] = m;
-    }
-}
-
-pub fn set_below(s: &mut Station, n: u32, m: u32) {
-    if n < NODES {
-        s[BELOW + n as usize] = m;
-    }
-}
-
-pub fn set_start(s: &mut Station, m: u32, n: u32) {
-    if m < MACHINES {
-        s[START + m as usize] = n;
-    }
-}
-
-pub fn set_holder(s: &mut Station, m: u32, n: u32) {
-    if m < MACHINES {
-        s[HOLDER + m as usize] = n;
-    }
-}
-
-pub fn set_mark(s: &mut Station, m: u32, mark: u32) {
-    if m < MACHINES {
-        s[MARK + m as usize] = mark;
-    }
-}
-
-pub fn set_root(s: &mut Station, m: u32) {
-    s[ROOT] = m;
-}
-
-// Gives node n a transition for x, or with "none" twice takes it away.
-pub fn set_transition(s: &mut Station, n: u32, x: u32, v: u32, c: u32) {
-    if n >= NODES {
+// Writes a field at a number; outside, nothing.
+pub fn put(s: &mut Station, field: u32, i: u32, w: u32) {
+    if field >= 38 {
         return;
     }
-    if x >= COMMANDS {
-        return;
+    if i < NODES {
+        s[256 * (field as usize) + i as usize] = w;
     }
-    s[TARGET + 16 * (n as usize) + x as usize] = v;
-    s[COST + 16 * (n as usize) + x as usize] = c;
 }
 
-pub fn used_node(s: &Station, n: u32) -> bool {
-    owner(s, n) != NONE
-}
-
-pub fn used_machine(s: &Station, m: u32) -> bool {
-    start(s, m) != NONE
+// The target, or with COST the cost, of node n's transition for x; "none" where there is none.
+pub fn transition(s: &Station, field: u32, n: u32, x: u32) -> u32 {
+    if x >= COMMANDS {
+        return NONE;
+    }
+    get(s, field % 64 + x, n)
 }
 
 pub fn is_state(s: &Station, n: u32) -> bool {
-    if owner(s, n) == NONE {
-        return false;
-    }
-    below(s, n) == NONE
+    get(s, OWNER, n) != NONE && get(s, BELOW, n) == NONE
 }
 
 // The node that holds node n's machine; none at the root's nodes.
 pub fn above(s: &Station, n: u32) -> u32 {
-    holder(s, owner(s, n))
+    get(s, HOLDER, get(s, OWNER, n))
 }
 
 // Whether node k is n or stands below it.
@@ -170,7 +83,7 @@ pub fn within(s: &Station, n: u32, k: u32) -> bool {
     false
 }
 
-// The level of a node in use, 1 in the root.
+// The level of a node, 1 in the root.
 pub fn level(s: &Station, n: u32) -> u32 {
     let mut at = n;
     let mut k = 0u32;
@@ -184,23 +97,18 @@ pub fn level(s: &Station, n: u32) -> u32 {
     k
 }
 
-// The greatest level of a node in use.
+// The greatest level of a node.
 pub fn depth(s: &Station) -> u32 {
-    let mut most = 0u32;
+    let mut most = 1u32;
     let mut n = 0u32;
     while n < NODES {
-        most = larger(most, used_level(s, n));
+        let l = level(s, n);
+        if l > most {
+            most = l;
+        }
         n += 1;
     }
     most
-}
-
-fn used_level(s: &Station, n: u32) -> u32 {
-    if used_node(s, n) { level(s, n) } else { 0 }
-}
-
-fn larger(a: u32, b: u32) -> u32 {
-    if a < b { b } else { a }
 }
 
 // The number of states.
@@ -224,7 +132,7 @@ fn one_if(b: bool) -> u32
 pub fn any_marked(s: &Station) -> bool {
     let mut m = 0u32;
     while m < MACHINES {
-        if mark(s, m) == 1 {
+        if get(s, MARK, m) == 1 {
             return true;
         }
         m += 1;

@@ -2,18 +2,18 @@
 // or the first that is refused.
 ghost use Prim.Native.Nat.{_≤_, _<_};
 use crate::edits;
+use crate::station::BELOW;
 use crate::station::COMMANDS;
 use crate::station::LEVELS;
 use crate::station::MACHINES;
 use crate::station::NODES;
+use crate::station::NONE;
+use crate::station::OWNER;
+use crate::station::START;
 use crate::station::Station;
-use crate::station::below;
 use crate::station::depth;
+use crate::station::get;
 use crate::station::level;
-use crate::station::owner;
-use crate::station::start;
-use crate::station::used_machine;
-use crate::station::used_node;
 
 // A stream's bytes stand at the front; how many there are goes beside it.
 pub type Bytes = [u8; 8192];
@@ -128,9 +128,9 @@ fn out_of_range(o: Order) -> bool {
 fn missing(s: &Station, o: Order) -> bool {
     let op = o.op;
     match op {
-        0x11 => !used_machine(s, o.machine),
-        0x12 | 0x13 | 0x15 | 0x16 => !used_node(s, o.node),
-        0x14 => !used_node(s, o.node) || !used_node(s, o.other),
+        0x11 => get(s, START, o.machine) == NONE,
+        0x12 | 0x13 | 0x15 | 0x16 => get(s, OWNER, o.node) == NONE,
+        0x14 => get(s, OWNER, o.node) == NONE || get(s, OWNER, o.other) == NONE,
         _ => false,
     }
 }
@@ -139,9 +139,9 @@ fn missing(s: &Station, o: Order) -> bool {
 fn in_use(s: &Station, o: Order) -> bool {
     let op = o.op;
     match op {
-        0x11 => used_node(s, o.node),
-        0x12 => used_machine(s, o.machine) || used_node(s, o.other),
-        0x17 => used_machine(s, o.machine) || used_node(s, o.node),
+        0x11 => get(s, OWNER, o.node) != NONE,
+        0x12 => get(s, START, o.machine) != NONE || get(s, OWNER, o.other) != NONE,
+        0x17 => get(s, START, o.machine) != NONE || get(s, OWNER, o.node) != NONE,
         _ => false,
     }
 }
@@ -150,9 +150,9 @@ fn in_use(s: &Station, o: Order) -> bool {
 fn misplaced(s: &Station, o: Order) -> u32 {
     let op = o.op;
     match op {
-        0x12 => number_if(used_machine(s, below(s, o.node)), 9),
-        0x13 => number_if(start(s, owner(s, o.node)) == o.node, 10),
-        0x14 => number_if(owner(s, o.node) != owner(s, o.other), 11),
+        0x12 => number_if(get(s, BELOW, o.node) != NONE, 9),
+        0x13 => number_if(get(s, START, get(s, OWNER, o.node)) == o.node, 10),
+        0x14 => number_if(get(s, OWNER, o.node) != get(s, OWNER, o.other), 11),
         _ => 0,
     }
 }
@@ -198,7 +198,7 @@ fn perform(s: &mut Station, o: Order) {
         0x12 => edits::refine(s, o.node, o.machine, o.other),
         0x13 => edits::remove(s, o.node),
         0x14 => edits::arrow(s, o.node, o.command, o.other, o.cost),
-        0x15 => edits::clear(s, o.node, o.command),
+        0x15 => edits::arrow(s, o.node, o.command, NONE, NONE),
         0x16 => edits::restart(s, o.node),
         0x17 => edits::crown(s, o.machine, o.node),
         _ => edits::unmark(s),

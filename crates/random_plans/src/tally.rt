@@ -26,28 +26,9 @@ pub fn get(tally: &Tally, i: u32) -> u64 {
 
 // Counts so many more at a place.
 pub fn count(tally: &mut Tally, i: u32, more: usize) {
-    if i >= 72 {
-        return;
-    }
-    if more >= 1000000 {
-        return;
-    }
-    let old = tally[i as usize];
-    if old < 1000000000000 {
-        tally[i as usize] = old + more as u64;
-    }
-}
-
-// Counts a refusal, where there is one.
-pub fn count_refusal(tally: &mut Tally, base: u32, number: u32) {
-    if number == 0 {
-        return;
-    }
-    if base > 32 {
-        return;
-    }
-    if number < 32 {
-        count(tally, base + number, 1);
+    let sum = get(tally, i) % 1000000000000 + (more % 1000000) as u64;
+    if i < 72 {
+        tally[i as usize] = sum;
     }
 }
 
@@ -55,57 +36,38 @@ pub fn text(t: &[u8]) {
     io::write_all(STDOUT_FILENO, t);
 }
 
-pub fn number(n: u64) {
+// Writes a text and a number after it.
+pub fn say(t: &[u8], n: u64) {
+    io::write_all(STDOUT_FILENO, t);
     io::print_decimal(STDOUT_FILENO, n);
 }
 
-fn wide(n: u32) -> u64 {
-    n as u64
-}
-
-// A text and a number after it.
-fn item(before: &[u8], tally: &Tally, i: u32) {
-    text(before);
-    number(get(tally, i));
-}
-
-// The refusals that were met, each number with how often.
+// The refusals that were met, each number with how often; those of Plan but for 'no way'.
 fn refusals(tally: &Tally, base: u32) {
     let mut k = 1u32;
     while k < 16 {
-        refusal(tally, base, k);
+        let times = get(tally, base % 64 + k);
+        if times != 0 {
+            say(b" ", k as u64);
+            say(b":", times);
+        }
         k += 1;
-    }
-}
-
-fn refusal(tally: &Tally, base: u32, k: u32) {
-    if base > 32 {
-        return;
-    }
-    if k >= 32 {
-        return;
-    }
-    if get(tally, base + k) != 0 {
-        text(b" ");
-        number(wide(k));
-        text(b":");
-        number(get(tally, base + k));
     }
 }
 
 // The line of a shape: what was compared, the refusals that were met, and how many differences there were.
 pub fn line(name: &[u8], tally: &Tally) {
     text(name);
-    item(b": books ", tally, BOOKS);
-    item(b", streams ", tally, STREAMS);
-    item(b", commands taken ", tally, COMMANDS);
+    say(b": books ", get(tally, BOOKS));
+    say(b", streams ", get(tally, STREAMS));
+    say(b", commands taken ", get(tally, COMMANDS));
     text(b", refused");
     refusals(tally, LOAD);
-    item(b"; plans ", tally, PLANS);
-    item(b", no way ", tally, NO_WAY);
+    say(b"; plans ", get(tally, PLANS));
+    say(b", no way ", get(tally, NO_WAY));
     text(b", refused");
     refusals(tally, PLAN);
-    item(b"; ", tally, DIFFERENCES);
+    say(b"; ", get(tally, DIFFERENCES));
     text(b" differences\n");
 }
 
@@ -117,11 +79,8 @@ pub fn differs(tally: &mut Tally, what: &[u8], a: u32, b: u32) {
     }
     text(b"differs: ");
     text(what);
-    text(b", stream ");
-    number(get(tally, STREAMS));
-    text(b", at ");
-    number(wide(a));
-    text(b" ");
-    number(wide(b));
+    say(b", stream ", get(tally, STREAMS));
+    say(b", at ", a as u64);
+    say(b" ", b as u64);
     text(b"\n");
 }

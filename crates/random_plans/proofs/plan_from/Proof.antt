@@ -13,9 +13,6 @@ abbrev μ-loop : tie.MeasureT-loop
 distances-requires : tie.Need-distances-requires Inv-loop μ-loop
 distances-requires c κs = search needs
 
-compare-steps-requires : tie.Need-compare-steps-requires Inv-loop μ-loop
-compare-steps-requires c κs = search needs
-
 loop-holds : tie.Need-loop-holds Inv-loop μ-loop
 loop-holds c = search needs
 
@@ -44,7 +41,6 @@ plan-from-spec =
     Inv-loop
     μ-loop
     distances-requires
-    compare-steps-requires
     loop-holds
     is-state-requires
     compare-plan-requires

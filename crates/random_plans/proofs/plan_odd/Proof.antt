@@ -13,11 +13,11 @@ abbrev μ-loop : tie.MeasureT-loop
 loop-holds : tie.Need-loop-holds Inv-loop μ-loop
 loop-holds c = search needs
 
-any-node-requires : tie.Need-any-node-requires Inv-loop μ-loop
-any-node-requires c κs = search needs
+pick-requires : tie.Need-pick-requires Inv-loop μ-loop
+pick-requires c κs = search needs
 
-any-node-requires-2 : tie.Need-any-node-requires-2 Inv-loop μ-loop
-any-node-requires-2 c κs = search needs
+pick-requires-2 : tie.Need-pick-requires-2 Inv-loop μ-loop
+pick-requires-2 c κs = search needs
 
 odd-room-requires : tie.Need-odd-room-requires Inv-loop μ-loop
 odd-room-requires c κs = search needs
@@ -44,8 +44,8 @@ plan-odd-spec =
     Inv-loop
     μ-loop
     loop-holds
-    any-node-requires
-    any-node-requires-2
+    pick-requires
+    pick-requires-2
     odd-room-requires
     compare-no-requires
     add-i

@@ -25,8 +25,8 @@ mul-if1 c = search needs
 element-copy-out-if1 : tie.Need-element-copy-out-if1 Inv-loop μ-loop
 element-copy-out-if1 c = search needs
 
-mark-requires : tie.Need-mark-requires Inv-loop μ-loop
-mark-requires c κs = search needs
+get-requires : tie.Need-get-requires Inv-loop μ-loop
+get-requires c κs = search needs
 
 slice-aggregate-differs : tie.Need-slice-aggregate-differs Inv-loop μ-loop
 slice-aggregate-differs c = search needs
@@ -63,7 +63,7 @@ compare-marks-spec =
     mul-i
     mul-if1
     element-copy-out-if1
-    mark-requires
+    get-requires
     slice-aggregate-differs
     mul-differs
     element-copy-out-differs

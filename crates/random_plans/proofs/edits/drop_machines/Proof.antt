@@ -13,20 +13,20 @@ abbrev μ-loop : tie.MeasureT-loop
 loop-holds : tie.Need-loop-holds Inv-loop μ-loop
 loop-holds c = search needs
 
-holder-requires : tie.Need-holder-requires Inv-loop μ-loop
-holder-requires c κs = search needs
+get-requires : tie.Need-get-requires Inv-loop μ-loop
+get-requires c κs = search needs
 
 is-gone-requires : tie.Need-is-gone-requires Inv-loop μ-loop
 is-gone-requires c κs = search needs
 
-set-holder-requires : tie.Need-set-holder-requires Inv-loop μ-loop
-set-holder-requires c κs = search needs
+put-requires : tie.Need-put-requires Inv-loop μ-loop
+put-requires c κs = search needs
 
-set-start-requires : tie.Need-set-start-requires Inv-loop μ-loop
-set-start-requires c κs = search needs
+put-requires-2 : tie.Need-put-requires-2 Inv-loop μ-loop
+put-requires-2 c κs = search needs
 
-set-mark-requires : tie.Need-set-mark-requires Inv-loop μ-loop
-set-mark-requires c κs = search needs
+put-requires-3 : tie.Need-put-requires-3 Inv-loop μ-loop
+put-requires-3 c κs = search needs
 
 add-m : tie.Need-add-m Inv-loop μ-loop
 add-m c = search needs
@@ -47,11 +47,11 @@ drop-machines-spec =
     Inv-loop
     μ-loop
     loop-holds
-    holder-requires
+    get-requires
     is-gone-requires
-    set-holder-requires
-    set-start-requires
-    set-mark-requires
+    put-requires
+    put-requires-2
+    put-requires-3
     add-m
     loop-less
     loop-again

@@ -16,11 +16,11 @@ loop-holds c = search needs
 is-gone-requires : tie.Need-is-gone-requires Inv-loop μ-loop
 is-gone-requires c κs = search needs
 
-set-owner-requires : tie.Need-set-owner-requires Inv-loop μ-loop
-set-owner-requires c κs = search needs
+put-requires : tie.Need-put-requires Inv-loop μ-loop
+put-requires c κs = search needs
 
-set-below-requires : tie.Need-set-below-requires Inv-loop μ-loop
-set-below-requires c κs = search needs
+put-requires-2 : tie.Need-put-requires-2 Inv-loop μ-loop
+put-requires-2 c κs = search needs
 
 drop-transitions-requires : tie.Need-drop-transitions-requires Inv-loop μ-loop
 drop-transitions-requires c κs = search needs
@@ -48,8 +48,8 @@ drop-nodes-spec =
     μ-loop
     loop-holds
     is-gone-requires
-    set-owner-requires
-    set-below-requires
+    put-requires
+    put-requires-2
     drop-transitions-requires
     drop-transitions-requires-2
     add-k

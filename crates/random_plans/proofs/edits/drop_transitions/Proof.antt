@@ -13,8 +13,8 @@ abbrev μ-loop : tie.MeasureT-loop
 loop-holds : tie.Need-loop-holds Inv-loop μ-loop
 loop-holds c = search needs
 
-target-requires : tie.Need-target-requires Inv-loop μ-loop
-target-requires c κs = search needs
+transition-requires : tie.Need-transition-requires Inv-loop μ-loop
+transition-requires c κs = search needs
 
 set-transition-requires : tie.Need-set-transition-requires Inv-loop μ-loop
 set-transition-requires c κs = search needs
@@ -38,7 +38,7 @@ drop-transitions-spec =
     Inv-loop
     μ-loop
     loop-holds
-    target-requires
+    transition-requires
     set-transition-requires
     add-x
     loop-less

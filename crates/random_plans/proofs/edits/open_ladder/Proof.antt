@@ -13,11 +13,26 @@ abbrev μ-loop : tie.MeasureT-loop
 begin-requires : tie.Need-begin-requires Inv-loop μ-loop
 begin-requires c κs = search needs
 
+rung-requires : tie.Need-rung-requires Inv-loop μ-loop
+rung-requires c κs = search needs
+
 loop-holds : tie.Need-loop-holds Inv-loop μ-loop
 loop-holds c = search needs
 
-rung-requires : tie.Need-rung-requires Inv-loop μ-loop
-rung-requires c κs = search needs
+ladder-holder-requires : tie.Need-ladder-holder-requires Inv-loop μ-loop
+ladder-holder-requires c κs = search needs
+
+mul-refine : tie.Need-mul-refine Inv-loop μ-loop
+mul-refine c = search needs
+
+add-refine : tie.Need-add-refine Inv-loop μ-loop
+add-refine c = search needs
+
+refine-requires : tie.Need-refine-requires Inv-loop μ-loop
+refine-requires c κs = search needs
+
+rung-requires-2 : tie.Need-rung-requires-2 Inv-loop μ-loop
+rung-requires-2 c κs = search needs
 
 add-m : tie.Need-add-m Inv-loop μ-loop
 add-m c = search needs
@@ -38,8 +53,13 @@ open-ladder-spec =
     Inv-loop
     μ-loop
     begin-requires
-    loop-holds
     rung-requires
+    loop-holds
+    ladder-holder-requires
+    mul-refine
+    add-refine
+    refine-requires
+    rung-requires-2
     add-m
     loop-less
     loop-again

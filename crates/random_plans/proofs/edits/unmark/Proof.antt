@@ -13,8 +13,8 @@ abbrev μ-loop : tie.MeasureT-loop
 loop-holds : tie.Need-loop-holds Inv-loop μ-loop
 loop-holds c = search needs
 
-set-mark-requires : tie.Need-set-mark-requires Inv-loop μ-loop
-set-mark-requires c κs = search needs
+put-requires : tie.Need-put-requires Inv-loop μ-loop
+put-requires c κs = search needs
 
 add-m : tie.Need-add-m Inv-loop μ-loop
 add-m c = search needs
@@ -30,5 +30,4 @@ returns c = search needs
 
 pub unmark-spec : {M : Type 1} → statement M
 unmark-spec =
-    tie.close
-    (tie.spec Inv-loop μ-loop loop-holds set-mark-requires add-m loop-less loop-again returns)
+    tie.close (tie.spec Inv-loop μ-loop loop-holds put-requires add-m loop-less loop-again returns)

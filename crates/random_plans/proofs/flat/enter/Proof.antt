@@ -13,17 +13,14 @@ abbrev μ-loop : tie.MeasureT-loop
 loop-holds : tie.Need-loop-holds Inv-loop μ-loop
 loop-holds c = search needs
 
-below-requires : tie.Need-below-requires Inv-loop μ-loop
-below-requires c κs = search needs
+get-requires : tie.Need-get-requires Inv-loop μ-loop
+get-requires c κs = search needs
 
 returns : tie.Need-returns Inv-loop μ-loop
 returns c = search needs
 
-below-requires-2 : tie.Need-below-requires-2 Inv-loop μ-loop
-below-requires-2 c κs = search needs
-
-start-requires : tie.Need-start-requires Inv-loop μ-loop
-start-requires c κs = search needs
+get-requires-2 : tie.Need-get-requires-2 Inv-loop μ-loop
+get-requires-2 c κs = search needs
 
 add-i : tie.Need-add-i Inv-loop μ-loop
 add-i c = search needs
@@ -44,10 +41,9 @@ enter-spec =
     Inv-loop
     μ-loop
     loop-holds
-    below-requires
+    get-requires
     returns
-    below-requires-2
-    start-requires
+    get-requires-2
     add-i
     loop-less
     loop-again

@@ -13,8 +13,8 @@ abbrev μ-loop : tie.MeasureT-loop
 loop-holds : tie.Need-loop-holds Inv-loop μ-loop
 loop-holds c = search needs
 
-target-requires : tie.Need-target-requires Inv-loop μ-loop
-target-requires c κs = search needs
+transition-requires : tie.Need-transition-requires Inv-loop μ-loop
+transition-requires c κs = search needs
 
 returns : tie.Need-returns Inv-loop μ-loop
 returns c = search needs
@@ -41,7 +41,7 @@ lowest-spec =
     Inv-loop
     μ-loop
     loop-holds
-    target-requires
+    transition-requires
     returns
     above-requires
     add-i

@@ -5,16 +5,16 @@ use Rattle.random_plans.proofs.making.repeat.Statement.{statement}
 use Rattle.random_plans.proofs.making.repeat.Tie as tie
 
 abbrev Inv-loop : tie.InvT-loop
-Inv-loop s₀ seed₀ shape kind count stream₀ at end₀ i₀ s seed stream end i = Unit {0}
+Inv-loop s₀ seed₀ shape kind column stream₀ at count end₀ i₀ s seed stream end i = Unit {0}
 
 abbrev μ-loop : tie.MeasureT-loop
-μ-loop s₀ seed₀ shape kind count stream₀ at end₀ i₀ s seed stream end i = count - i
+μ-loop s₀ seed₀ shape kind column stream₀ at count end₀ i₀ s seed stream end i = count - i
+
+of-requires : tie.Need-of-requires Inv-loop μ-loop
+of-requires c κs = search needs
 
 loop-holds : tie.Need-loop-holds Inv-loop μ-loop
 loop-holds c = search needs
-
-any-kind-requires : tie.Need-any-kind-requires Inv-loop μ-loop
-any-kind-requires c κs = search needs
 
 extend-requires : tie.Need-extend-requires Inv-loop μ-loop
 extend-requires c κs = search needs
@@ -37,8 +37,8 @@ repeat-spec =
     (tie.spec
     Inv-loop
     μ-loop
+    of-requires
     loop-holds
-    any-kind-requires
     extend-requires
     add-i
     loop-less

@@ -5,16 +5,34 @@ use Rattle.random_plans.proofs.tally.refusals.Statement.{statement}
 use Rattle.random_plans.proofs.tally.refusals.Tie as tie
 
 abbrev Inv-loop : tie.InvT-loop
-Inv-loop tally base k₀ k = Unit {0}
+Inv-loop tally base k₀ t5 t6 k = Unit {0}
 
 abbrev μ-loop : tie.MeasureT-loop
-μ-loop tally base k₀ k = 16 - k
+μ-loop tally base k₀ t5 t6 k = 16 - k
 
 loop-holds : tie.Need-loop-holds Inv-loop μ-loop
 loop-holds c = search needs
 
-refusal-requires : tie.Need-refusal-requires Inv-loop μ-loop
-refusal-requires c κs = search needs
+add-get : tie.Need-add-get Inv-loop μ-loop
+add-get c = search needs
+
+get-requires : tie.Need-get-requires Inv-loop μ-loop
+get-requires c κs = search needs
+
+slice-aggregate-say : tie.Need-slice-aggregate-say Inv-loop μ-loop
+slice-aggregate-say c = search needs
+
+cast-say : tie.Need-cast-say Inv-loop μ-loop
+cast-say c = search needs
+
+say-requires : tie.Need-say-requires Inv-loop μ-loop
+say-requires c κs = search needs
+
+slice-aggregate-say-2 : tie.Need-slice-aggregate-say-2 Inv-loop μ-loop
+slice-aggregate-say-2 c = search needs
+
+say-requires-2 : tie.Need-say-requires-2 Inv-loop μ-loop
+say-requires-2 c κs = search needs
 
 add-k : tie.Need-add-k Inv-loop μ-loop
 add-k c = search needs
@@ -31,4 +49,18 @@ returns c = search needs
 pub refusals-spec : {M : Type 1} → statement M
 refusals-spec =
     tie.close
-    (tie.spec Inv-loop μ-loop loop-holds refusal-requires add-k loop-less loop-again returns)
+    (tie.spec
+    Inv-loop
+    μ-loop
+    loop-holds
+    add-get
+    get-requires
+    slice-aggregate-say
+    cast-say
+    say-requires
+    slice-aggregate-say-2
+    say-requires-2
+    add-k
+    loop-less
+    loop-again
+    returns)
