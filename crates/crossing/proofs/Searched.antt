@@ -1,9 +1,9 @@
 -- What a search over the tables finds is what the search of a plan has to find: every reached node belongs to an opened machine, since only
 -- such nodes have moves and their moves lead to such nodes. Assumes nothing.
-use mathlib.Core.Path.{_≡_, sym, _∙_, ap, subst}
+use mathlib.Core.Path.{_≡_, refl, sym, _∙_, ap, subst}
 use mathlib.Core.Logic.{⊎-elim}
 use mathlib.Core.Bool.{Bool, true, false}
-use mathlib.Core.Option.{Option, some}
+use mathlib.Core.Option.{Option, none, some}
 use mathlib.Core.List.{List}
 use Prim.Native.Nat.{ℕ, _<_}
 use native.Mathlib.Omega.{arith}
@@ -13,12 +13,14 @@ use Rattle.definitions.specs.Step.{Arrival}
 use Rattle.definitions.specs.Book.{treeOf}
 use Rattle.definitions.specs.Sheet.{Rows, rowsOf}
 use Rattle.definitions.specs.Truth.{TrueRows}
-use Rattle.definitions.proofs.Options.{none-some, decided, equal-or-not}
-use Rattle.plantheory.specs.Search.{openedFor, planMove, PlanSearched}
+use Rattle.definitions.proofs.Options.{none-some, some-same, decided, equal-or-not}
+use Rattle.definitions.proofs.Runs.{Bounded}
+use Rattle.plantheory.specs.Search.{openedFor, planMove, Accounted, PlanSearched}
 use Rattle.plantheory.proofs.Landing.{Opening, opening-for, opened-first, plan-parts, move-landed}
 use Rattle.plantheory.proofs.Bounds.{plan-move-cost}
-use Rattle.search.specs.Search.{Certificate, Tables, Searched, moveOf}
+use Rattle.search.specs.Search.{Nearer, Certificate, Tables, Searched, moveOf}
 use Rattle.search.proofs.Reading.{move-some, move-row, row-words}
+use Rattle.search.proofs.Cut.{cut, cut-at, cut-start, cut-bounded}
 use Rattle.stepping.proofs.Laws.{used-range}
 use Rattle.crossing.specs.Crossing.{Crossable, CrossRoom, Crossed}
 use Rattle.crossing.specs.Parts.{isOpen, Opens, inOpened, openMove, TableRoom, Tabled}
@@ -64,8 +66,8 @@ module _ {t : Tree} (sound : Sound t) (r : Rows) {opened : ℕ → Bool} (openin
         cheap = λ n x b e. omega (arith, plan-move-cost sound r rows fresh opened n x (table-move n x e .plan));
       }
 
-  module _ {a : ℕ} (first : inOpened t opened a ≡ true) {distance before by : ℕ → Option ℕ}
-      (cert : Certificate nodes a (moveOf nodes target price) distance before by) where
+  module _ {a b : ℕ} (first : inOpened t opened a ≡ true) {distance before by : ℕ → Option ℕ}
+      (cert : Certificate nodes a b (moveOf nodes target price) distance before by) where
     -- a reached node belongs to an opened machine
     reached-opened : (n c : ℕ) → distance n ≡ some c → inOpened t opened n ≡ true
     reached-opened n c near =
@@ -73,15 +75,51 @@ module _ {t : Tree} (sound : Sound t) (r : Rows) {opened : ℕ → Bool} (openin
         (λ (other : n ≡ a → ⊥). let led = cert .named n c other near in table-move (led .node) (led .command) (led .moves) .lands)
         (equal-or-not n a)
 
-    pub certified-plan : PlanSearched (planMove t r opened) a distance before by
+    -- a move of the search from a node nearer than b is accounted for
+    accounted-near : (q d x : ℕ) (m : Arrival) → distance q ≡ some d → Nearer distance b d → x < commands → planMove t r opened q x ≡ some m
+        → Bounded distance d m
+    accounted-near q d x m near nearer range plan =
+        let node = cert .inside q d near in
+        cert .relaxed q d x m near nearer
+        (move-row target price q x nodes node ∙ table .moves q x node range ∙ open-move t r opened q x (reached-opened q d near) ∙ plan)
+
+    -- the bounds that no move makes less: the distances, cut off at that of b
+    pub record Bounds : Type 0 where
+      pub bound : ℕ → Option ℕ
+      pub start-bound : bound a ≡ some 0
+      pub end-bound : bound b ≡ distance b
+      pub accounted : Accounted (planMove t r opened) bound
+
+    bounds : Bounds
+    bounds = go (distance b) refl
+      where
+        go : (o : Option ℕ) → distance b ≡ o → Bounds
+        go none far =
+            record {
+              bound = distance;
+              start-bound = cert .start-distance;
+              end-bound = refl;
+              accounted = λ q d x m near range plan. accounted-near q d x m near (λ g e. absurd (none-some far e)) range plan;
+            }
+        go (some g) near =
+            record {
+              bound = cut g distance;
+              start-bound = cut-start distance g (cert .start-distance);
+              end-bound = cut-at distance g near ∙ sym near;
+              accounted = λ q d x m value range plan.
+                  cut-bounded distance g m
+                  (λ c at less. accounted-near q c x m at (λ h e. omega (arith, some-same near e)) range plan) value;
+            }
+
+    pub certified-plan : PlanSearched (planMove t r opened) a b distance before by
     certified-plan =
         record {
           start-distance = cert .start-distance;
           start-before = cert .start-before;
-          accounted = λ q d x b near range plan.
-              let node = cert .inside q d near in
-              cert .relaxed q d x b near
-              (move-row target price q x nodes node ∙ table .moves q x node range ∙ open-move t r opened q x (reached-opened q d near) ∙ plan);
+          bound = bounds .bound;
+          start-bound = bounds .start-bound;
+          end-bound = bounds .end-bound;
+          accounted = bounds .accounted;
           named = λ n c other near.
               let led = cert .named n c other near in
               record {
@@ -118,7 +156,7 @@ module _ {book sheet : List ℕ} {a b : ℕ} (able : Crossable book sheet a b) {
 
   -- and leaves what is to be found
   pub cross-done : {dist before by dist′ before′ by′ : List ℕ} → CrossRoom dist′ before′ by′
-      → Searched nodes a target price dist before by dist′ before′ by′ → Crossed (treeOf book) (rowsOf sheet) a b dist′ before′ by′
+      → Searched nodes a b target price dist before by dist′ before′ by′ → Crossed (treeOf book) (rowsOf sheet) a b dist′ before′ by′
   cross-done room done =
       record {
         room = room;

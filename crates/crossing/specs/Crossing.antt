@@ -29,7 +29,7 @@ pub record CrossRoom (dist before by : List ℕ) : Type 0 where
   pub before-room : length before ≡ nodes
   pub by-room : length by ≡ nodes
 
--- the lists hold what the search from a finds, with the machines above a and b opened
+-- the lists hold what the search from a to b finds, with the machines above a and b opened
 pub record Crossed (t : Tree) (r : Rows) (a b : ℕ) (dist before by : List ℕ) : Type 0 where
   pub room : CrossRoom dist before by
-  pub searched : PlanSearched (planMove t r (openedFor t a b)) a (distanceOf nodes dist) (nameOf nodes before) (nameOf nodes by)
+  pub searched : PlanSearched (planMove t r (openedFor t a b)) a b (distanceOf nodes dist) (nameOf nodes before) (nameOf nodes by)

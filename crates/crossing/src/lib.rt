@@ -151,7 +151,7 @@ fn tables(book: &[u32], sheet: &[u32], opened: &[u32], target: &mut [u32], price
     }
 }
 
-// Searches from state a over the machines above a and b: leaves the distances and names of the nodes. The book is well formed, its sheet
+// Searches from state a over the machines above a and b, up to b: leaves the distances and names of the nodes. The book is well formed, its sheet
 // true and no machine in it stale.
 pub fn cross(
     book: &[u32],
@@ -175,6 +175,7 @@ pub fn cross(
     search::search(
         book::NODES as usize,
         a as usize,
+        b as usize,
         &target,
         &price,
         dist,

@@ -117,15 +117,15 @@ row-traceable {t} s {r} rows fresh {m} {f} {x} {u} used range last =
 
 -- ---- the names of a search
 
--- the names of a search can be followed from every node that it reaches
+-- the names of a search can be followed from the node that it is for
 pub plan-traceable : {t : Tree} → Sound t → (r : Rows) → TrueRows t r → ((m : ℕ) → r .stale m ≡ false) → (opened : ℕ → Bool) → Opening t opened
-    → {a : ℕ} → Position t opened a → t .below a ≡ none → {distance before by : ℕ → Option ℕ}
-    → PlanSearched (planMove t r opened) a distance before by → {b c : ℕ} → distance b ≡ some c → Traceable before by b
-plan-traceable {t} s r rows fresh opened opening {a} at-a plain-a {distance} {before} {by} found {b} {c} reach =
+    → {a b : ℕ} → Position t opened a → t .below a ≡ none → {distance before by : ℕ → Option ℕ}
+    → PlanSearched (planMove t r opened) a b distance before by → {c : ℕ} → distance b ≡ some c → Traceable before by b
+plan-traceable {t} s r rows fresh opened opening {a} {b} at-a plain-a {distance} {before} {by} found {c} reach =
     let (k, short, way) = found .chain b c reach in
     traceable before by (λ n. (d : ℕ) × (distance n ≡ some d))
     (λ n reached.
-    let at = reached-position s r rows fresh opened opening a at-a plain-a distance before by found n (reached .0) (reached .1) in
+    let at = reached-position s r rows fresh opened opening a b at-a plain-a distance before by found n (reached .0) (reached .1) in
     s .node-range n (at .machine) (at .owned))
     (λ n v reached e.
     let other : n ≡ a → ⊥ = λ at. none-some (found .start-before) (subst (λ (w : ℕ). before w ≡ some v) at e) in

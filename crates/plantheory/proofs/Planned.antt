@@ -40,8 +40,8 @@ plain-enters bel (down held st en) = absurd (none-some bel held)
 
 -- what the search finds from state a, in true rows with none stale
 module _ {t : Tree} (s : Sound t) (r : Rows) (rows : TrueRows t r) (fresh : (m : ℕ) → r .stale m ≡ false) (opened : ℕ → Bool)
-    (opening : Opening t opened) (a : ℕ) (at-a : Position t opened a) (plain-a : t .below a ≡ none) (distance before by : ℕ → Option ℕ)
-    (search : PlanSearched (planMove t r opened) a distance before by) where
+    (opening : Opening t opened) (a b : ℕ) (at-a : Position t opened a) (plain-a : t .below a ≡ none) (distance before by : ℕ → Option ℕ)
+    (search : PlanSearched (planMove t r opened) a b distance before by) where
   abbrev local : LocalRows t r
   local = true-local s r rows
 
@@ -91,10 +91,10 @@ module _ {t : Tree} (s : Sound t) (r : Rows) (rows : TrueRows t r) (fresh : (m :
       }
 
   -- the plan leads along the names to b
-  plan-chained : (b c : ℕ) → distance b ≡ some c
+  plan-chained : (c : ℕ) → distance b ≡ some c
       → (j : ℕ) × (iterate before j b ≡ some a) × Chained t (t .root) before a a (Position t opened) b c j (planPart t r before by b)
   unfolding planPart
-  plan-chained b c reach =
+  plan-chained c reach =
       let (j, short, way) = search .chain b c reach in (
         j,
         way,
@@ -104,10 +104,10 @@ module _ {t : Tree} (s : Sound t) (r : Rows) (rows : TrueRows t r) (fresh : (m :
       )
 
   -- so it moves the station to b at its distance, and passes no state twice
-  pub plan-moves : (b c : ℕ) → t .below b ≡ none → distance b ≡ some c
+  pub plan-moves : (c : ℕ) → t .below b ≡ none → distance b ≡ some c
       → Moves t a b (planPart t r before by b) c × Distinct (passes t a (planPart t r before by b))
-  plan-moves b c plain-b reach =
-      let (j, back, way) = plan-chained b c reach in
+  plan-moves c plain-b reach =
+      let (j, back, way) = plan-chained c reach in
       let list : List ℕ = planPart t r before by b in
       let same : way .state ≡ b = plain-enters plain-b (way .enters) in
       let passed : passes t a list ≡ visits t (t .root) a list ++ (way .state ∷ []) =
@@ -122,11 +122,13 @@ module _ {t : Tree} (s : Sound t) (r : Rows) (rows : TrueRows t r) (fresh : (m :
             (itself (sym same), tt) (tt, tt)),
       )
 
-  -- a list to a state of an opened machine costs at least its distance
-  pub plan-least : (b : ℕ) → Position t opened b → (xs : List ℕ) (c : ℕ) → Moves t a b xs c → (d : ℕ) × (distance b ≡ some d) × (d ≤ c)
-  plan-least b at-b =
-      none-cheaper s r local fresh opened opening distance (search .accounted) (at-a .owned) (at-a .machine-opened) plain-a
-      (at-b .owned) (at-b .machine-opened) (search .start-distance)
+  -- a list to b costs at least its distance
+  pub plan-least : Position t opened b → (xs : List ℕ) (c : ℕ) → Moves t a b xs c → (d : ℕ) × (distance b ≡ some d) × (d ≤ c)
+  plan-least at-b xs c moves =
+      let (d, bound, le) =
+      none-cheaper s r local fresh opened opening (search .bound) (search .accounted) (at-a .owned) (at-a .machine-opened) plain-a
+      (at-b .owned) (at-b .machine-opened) (search .start-bound) xs c moves in
+      (d, sym (search .end-bound) ∙ bound, le)
 
 -- what a plan of this list from a to b, at the distance of b, has to be: a cheapest list; and no way where b has no distance
 abbrev pub Planned : Tree → ℕ → ℕ → List ℕ → Option ℕ → Type 0
@@ -136,13 +138,13 @@ Planned t a b list (some cost) = Plan t a b cost list
 -- so it is, whichever machines the search opens
 pub planned-in : {t : Tree} → Sound t → (r : Rows) → TrueRows t r → ((m : ℕ) → r .stale m ≡ false) → (opened : ℕ → Bool) → Opening t opened
     → {a b : ℕ} → Position t opened a → t .below a ≡ none → Position t opened b → t .below b ≡ none → {distance before by : ℕ → Option ℕ}
-    → PlanSearched (planMove t r opened) a distance before by → (o : Option ℕ) → distance b ≡ o → Planned t a b (planPart t r before by b) o
+    → PlanSearched (planMove t r opened) a b distance before by → (o : Option ℕ) → distance b ≡ o → Planned t a b (planPart t r before by b) o
 planned-in s r rows fresh opened opening {a} {b} at-a plain-a at-b plain-b {distance} {before} {by} search none far =
     λ c moved.
     let (xs, moves) = moved in
-    none-some far (plan-least s r rows fresh opened opening a at-a plain-a distance before by search b at-b xs c moves .1)
+    none-some far (plan-least s r rows fresh opened opening a b at-a plain-a distance before by search at-b xs c moves .1)
 planned-in {t} s r rows fresh opened opening {a} {b} at-a plain-a at-b plain-b {distance} {before} {by} search (some c) reach =
-    let (moves, simple) = plan-moves s r rows fresh opened opening a at-a plain-a distance before by search b c plain-b reach in
+    let (moves, simple) = plan-moves s r rows fresh opened opening a b at-a plain-a distance before by search c plain-b reach in
     record {
       moves = moves;
       simple = simple;
@@ -150,7 +152,7 @@ planned-in {t} s r rows fresh opened opening {a} {b} at-a plain-a at-b plain-b {
         (planPart t r before by b, moves),
         λ d moved.
             let (xs, other) = moved in
-            let (k, dist, le) = plan-least s r rows fresh opened opening a at-a plain-a distance before by search b at-b xs d other in
+            let (k, dist, le) = plan-least s r rows fresh opened opening a b at-a plain-a distance before by search at-b xs d other in
             omega (arith, some-same reach dist),
       );
     }
@@ -159,7 +161,7 @@ planned-in {t} s r rows fresh opened opening {a} {b} at-a plain-a at-b plain-b {
 -- finds, the expanded list is a cheapest list at the distance of b, and there is no way exactly where b is not reached.
 pub plan-good : {t : Tree} → Sound t → (r : Rows) → TrueRows t r → ((m : ℕ) → r .stale m ≡ false) → {a b m p : ℕ}
     → t .owner a ≡ some m → t .below a ≡ none → t .owner b ≡ some p → t .below b ≡ none → {distance before by : ℕ → Option ℕ}
-    → PlanSearched (planMove t r (openedFor t a b)) a distance before by → Planned t a b (planPart t r before by b) (distance b)
+    → PlanSearched (planMove t r (openedFor t a b)) a b distance before by → Planned t a b (planPart t r before by b) (distance b)
 plan-good {t} s r rows fresh {a} {b} own-a plain-a own-b plain-b {distance} search =
     planned-in s r rows fresh (openedFor t a b) (opening-for s own-a own-b) (plain-position own-a (opened-first t b own-a) plain-a) plain-a
     (plain-position own-b (opened-second t a own-b) plain-b) plain-b search (distance b) refl

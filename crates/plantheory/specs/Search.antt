@@ -50,11 +50,15 @@ pub record PlanNamed (move : ℕ → ℕ → Option Arrival) (distance before by
   pub moves : move node command ≡ some (record { node = n; cost = step-cost })
   pub exact : c ≡ node-cost + step-cost
 
--- what the search finds from node a: distances that no move makes less, and names that lead to every reached node at its distance
-pub record PlanSearched (move : ℕ → ℕ → Option Arrival) (a : ℕ) (distance before by : ℕ → Option ℕ) : Type 0 where
+-- what the search from node a to node b finds: distances, names that lead to every reached node at its distance, and bounds that no move makes
+-- less, the distance of b among them
+pub record PlanSearched (move : ℕ → ℕ → Option Arrival) (a b : ℕ) (distance before by : ℕ → Option ℕ) : Type 0 where
   pub start-distance : distance a ≡ some 0
   pub start-before : before a ≡ none
-  pub accounted : Accounted move distance
+  pub bound : ℕ → Option ℕ
+  pub start-bound : bound a ≡ some 0
+  pub end-bound : bound b ≡ distance b
+  pub accounted : Accounted move bound
   -- every reached node but a names a move that gives its distance, and following the names comes to a in at most 255 steps
   pub named : (n c : ℕ) → (n ≡ a → ⊥) → distance n ≡ some c → PlanNamed move distance before by n c
   pub chain : (n c : ℕ) → distance n ≡ some c → (k : ℕ) × (k ≤ longestChain) × (iterate before k n ≡ some a)

@@ -56,7 +56,7 @@ number-none w same = rw (eq-eqb w absent same)
 module _ {t : Tree} (sound : Sound t) {q : Rows} {m s : ℕ} (used : t .start m ≡ some s) {k : ℕ} {members places : ℕ → ℕ}
     (g : Members t m k members places) {step : ℕ → ℕ → Option Arrival} {distance before by : ℕ → Option ℕ}
     (table : (i x : ℕ) → i < k → x < commands → step i x ≡ placed places (move t q (members i) x))
-    (cert : Certificate k (places s) step distance before by) (filled : NodesFilled k members distance before by q) where
+    (cert : Certificate k (places s) k step distance before by) (filled : NodesFilled k members distance before by q) where
   first : t .owner s ≡ some m
   first = sound .start-owned m s used
 
@@ -204,7 +204,7 @@ module _ {t : Tree} (sound : Sound t) {q : Rows} {m s : ℕ} (used : t .start m 
         record {
           start-cost = cost-at first ∙ cert .start-distance;
           moves = λ n c x b own cost e.
-              let (d, there, low) = cert .relaxed (places n) c x _ (sym (cost-at own) ∙ cost) (step-at own e) in
+              let (d, there, low) = cert .relaxed (places n) c x _ (sym (cost-at own) ∙ cost) (λ g at. omega (arith, cert .inside k g at)) (step-at own e) in
               (d, cost-at (move-owned sound q n x own e) ∙ there, low);
           exits = exit-relaxed;
         }

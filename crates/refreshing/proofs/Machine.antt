@@ -58,7 +58,7 @@ start-told {t} sound {m} {w} able says =
 -- the search is done
 pub searched-found : {t : Tree} {r : Rows} {m k w source : ℕ} {members places target price dist before by dist′ before′ by′ : List ℕ}
     → Gathered t m nodes k members places → Tabled t r k (at members) (at places) target price → w ≡ word (t .start m) → source ≡ at places w
-    → FoundRoom dist′ before′ by′ → Searched k source target price dist before by dist′ before′ by′
+    → FoundRoom dist′ before′ by′ → Searched k source k target price dist before by dist′ before′ by′
     → Searches t r m k members places target price dist′ before′ by′
 unfolding word
 searched-found {t} {m = m} {k} {w} {source} {places = places} {target} {price} {dist′ = dist′} {before′} {by′} g table says here room done =
@@ -68,14 +68,14 @@ searched-found {t} {m = m} {k} {w} {source} {places = places} {target} {price} {
       tabled = table;
       certificate = λ s used.
           let same : source ≡ at places s = here ∙ ap (at places) (says ∙ ap word used) in
-          subst (λ (v : ℕ). Certificate k v (moveOf k target price) (distanceOf k dist′) (nameOf k before′) (nameOf k by′)) same
+          subst (λ (v : ℕ). Certificate k v k (moveOf k target price) (distanceOf k dist′) (nameOf k before′) (nameOf k by′)) same
           (done .certificate);
     }
 
 module _ {t : Tree} (sound : Sound t) {r : Rows} {m s k : ℕ} (used : t .start m ≡ some s)
     {members places target price dist before by : List ℕ}
     (found : Searches t r m k members places target price dist before by) where
-  cert : Certificate k (at places s) (moveOf k target price) (distanceOf k dist) (nameOf k before) (nameOf k by)
+  cert : Certificate k (at places s) k (moveOf k target price) (distanceOf k dist) (nameOf k before) (nameOf k by)
   cert = found .certificate s used
 
   group : Members t m k (at members) (at places)

@@ -116,7 +116,7 @@ module _ {t : Tree} (sound : Sound t) {r : Rows} (rows : TrueRows t r) {m s : �
 
     -- the rows with what the search found are true
     pub searched-true : {q : Rows} {distance place command : ℕ → Option ℕ}
-        → Certificate k (places s) (moveOf k target price) distance place command → Fills t m r q
+        → Certificate k (places s) k (moveOf k target price) distance place command → Fills t m r q
         → NodesFilled k members distance place command q
         → ((x : ℕ) → x < commands → ExitFilled t r members distance k x (q .exit m x) (q .last m x)) → TrueRows t q
     searched-true {q} {distance} cert fills filled exits =

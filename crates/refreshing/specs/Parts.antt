@@ -91,7 +91,7 @@ pub record Searches (t : Tree) (r : Rows) (m k : ℕ) (members places target pri
   pub room : FoundRoom dist before by
   pub tabled : Tabled t r k (at members) (at places) target price
   pub certificate : (s : ℕ) → t .start m ≡ some s
-      → Certificate k (at places s) (moveOf k target price) (distanceOf k dist) (nameOf k before) (nameOf k by)
+      → Certificate k (at places s) k (moveOf k target price) (distanceOf k dist) (nameOf k before) (nameOf k by)
 
 -- ---- the nodes' rows
 

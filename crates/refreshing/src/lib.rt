@@ -138,7 +138,7 @@ fn tables(
     }
 }
 
-// Gathers the nodes of machine m and searches from its start node; how many there are.
+// Gathers the nodes of machine m and searches from its start node, with no goal; how many there are.
 fn find(
     book: &[u32],
     sheet: &[u32],
@@ -160,7 +160,16 @@ fn find(
     let k = gather(book, m, members, places);
     tables(book, sheet, k, members, places, target, price);
     let source = word(places, book::start(book, m));
-    search::search(k as usize, source as usize, target, price, dist, before, by);
+    search::search(
+        k as usize,
+        source as usize,
+        k as usize,
+        target,
+        price,
+        dist,
+        before,
+        by,
+    );
     k
 }
 

@@ -33,3 +33,15 @@ count-less (suc k) p q u range pu qu other =
     rw (pk, qk) (omega (arith, count-same k p q (λ v h. other v (λ same. omega arith)))))
     (λ e. rw (other k e) (omega (arith, count-less k p q u (omega arith) pu qu other)))
     (equal-or-not k u)
+
+-- a test that some number passes
+pub count-some : (k : ℕ) (p : ℕ → Bool) (u : ℕ) → u < k → p u ≡ true → 0 < countBelow k p
+unfolding countBelow
+count-some zero p u range pu = absurd (omega arith)
+count-some (suc k) p u range pu =
+    ⊎-elim
+    (λ (e : k ≡ u).
+    let pk : p k ≡ true = rw e pu in
+    rw pk (omega arith))
+    (λ e. omega (arith, count-some k p u (omega arith) pu))
+    (equal-or-not k u)

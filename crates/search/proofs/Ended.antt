@@ -1,22 +1,31 @@
--- Where no node that waits is reached, the words are what the search promises. Assumes nothing.
-use mathlib.Core.Path.{_≡_, _∙_, ap, subst}
+-- Where no node that waits is nearer than the goal, the words are what the search promises. Assumes nothing.
+use mathlib.Core.Path.{_≡_, sym, _∙_, ap, subst}
 use mathlib.Core.Logic.{⊎-elim}
 use mathlib.Core.Option.{Option, some}
 use mathlib.Core.List.{List}
 use Prim.Native.Nat.{ℕ, zero, suc, _+_, _*_, _-_, _≤_, _<_}
 use native.Mathlib.Omega.{arith}
+use lib.Dec.{eqb}
+use borrow.Author.Tests.{eq-eqb}
 use Rattle.definitions.specs.Basics.{iterate}
 use Rattle.definitions.specs.Limits.{nodes, absent}
 use Rattle.definitions.specs.Step.{Arrival}
 use Rattle.definitions.proofs.Options.{equal-or-not}
-use Rattle.search.specs.Search.{largestMove, unreached, distanceOf, nameOf, Named, Certificate}
+use Rattle.search.specs.Search.{largestMove, unreached, distanceOf, nameOf, Named, Nearer, Certificate}
 use Rattle.search.specs.Parts.{at, Labels, labels}
 use Rattle.search.proofs.Reading.{distance-is, distance-some, distance-none, name-is, name-none}
+use Rattle.search.proofs.Counting.{count-some}
 use Rattle.search.proofs.Settling.{waiting, Moves, Label, by-move, blank, Settling}
 
-module _ {k s : ℕ} {move : ℕ → ℕ → Option Arrival} {first : Labels} {rank : ℕ → ℕ} {n : ℕ} (dist before by : List ℕ)
+-- the goal is reached, and node v is no nearer
+pub record AtGoal (k goal : ℕ) (dist : ℕ → ℕ) (v : ℕ) : Type 0 where
+  pub inside : goal < k
+  pub reached : dist goal < unreached
+  pub nearer : dist goal ≤ dist v
+
+module _ {k s goal : ℕ} {move : ℕ → ℕ → Option Arrival} {first : Labels} {rank : ℕ → ℕ} {n : ℕ} (dist before by : List ℕ)
     (small : k ≤ nodes) (in-s : s < k) (moves : Moves k move) (inv : Settling k s move first (labels dist before by) rank n)
-    (over : (v : ℕ) → v < k → rank v ≡ waiting → unreached ≤ at dist v) where
+    (over : (v : ℕ) → v < k → rank v ≡ waiting → at dist v < unreached → AtGoal k goal (at dist) v) where
   few : n ≤ k
   few = omega (arith, inv .count)
 
@@ -25,23 +34,30 @@ module _ {k s : ℕ} {move : ℕ → ℕ → Option Arrival} {first : Labels} {r
       → at dist v ≡ at dist u + w → at dist v < unreached
   named-near v h other {u} {x} {w} in-u done step d = omega (arith, few, inv .cheap u in-u done, moves .cheap u x _ step)
 
-  -- a node that is reached is settled
-  settled : (v : ℕ) → v < k → (at dist v ≡ unreached → ⊥) → rank v < n
-  settled v h there =
-      ⊎-elim (λ waits. absurd (⊎-elim (start waits) (λ e. go waits e (inv .others v h e)) (equal-or-not v s))) (λ done. done) (inv .ranks v h)
-    where
-      start : rank v ≡ waiting → v ≡ s → ⊥
-      start waits e = omega (arith, ap (at dist) e, inv .start-dist, over v h waits)
+  -- while a node waits, fewer than k are settled
+  fewer : (v : ℕ) → v < k → rank v ≡ waiting → n < k
+  fewer v h waits = omega (arith, inv .count, count-some k (λ w. eqb (rank w) waiting) v h (eq-eqb (rank v) waiting waits))
 
-      go : rank v ≡ waiting → (v ≡ s → ⊥) → Label k move (labels dist before by) rank n v → ⊥
-      go waits e (by-move u x w b y in-u done less step d) = omega (arith, over v h waits, named-near v h e in-u done step d)
-      go waits e (blank d b y) = there d
-
-  -- a node that is reached is no dearer than its rank allows
+  -- a node that is reached is no dearer than the longest way without a repeat
   near : (v : ℕ) → v < k → (at dist v ≡ unreached → ⊥) → at dist v ≤ (k - 1) * largestMove
   near v h there =
-      let done = settled v h there in
-      omega (arith, few, inv .cheap v h done)
+      ⊎-elim (λ waits. ⊎-elim (λ (e : v ≡ s). omega (arith, ap (at dist) e, inv .start-dist)) (λ e. go waits (inv .others v h e)) (equal-or-not v s))
+      (λ done. omega (arith, few, inv .cheap v h done)) (inv .ranks v h)
+    where
+      go : rank v ≡ waiting → Label k move (labels dist before by) rank n v → at dist v ≤ (k - 1) * largestMove
+      go waits (by-move u x w b y in-u done less step d) =
+          omega (arith, fewer v h waits, inv .cheap u in-u done, moves .cheap u x _ step)
+      go waits (blank d b y) = absurd (there d)
+
+  -- a node that is nearer than the goal is settled
+  settled : (v : ℕ) → v < k → (at dist v ≡ unreached → ⊥) → Nearer (distanceOf k dist) goal (at dist v) → rank v < n
+  settled v h there nearer =
+      ⊎-elim
+      (λ waits.
+      let at-goal = over v h waits (omega (arith, near v h there, small)) in
+      let reach = distance-is k dist goal (at-goal .inside) (λ e. omega (arith, at-goal .reached)) in
+      absurd (omega (arith, nearer (at dist goal) reach, at-goal .nearer)))
+      (λ done. done) (inv .ranks v h)
 
   -- a reached node but the source has its names
   is-named : (v : ℕ) → v < k → (v ≡ s → ⊥) → (at dist v ≡ unreached → ⊥)
@@ -81,26 +97,39 @@ module _ {k s : ℕ} {move : ℕ → ℕ → Option Arrival} {first : Labels} {r
 
   -- one name more
   leads-on : (m v : ℕ) → v < k → (at dist v ≡ unreached → ⊥)
-      → ((u : ℕ) → u < k → (at dist u ≡ unreached → ⊥) → rank u < rank v → (j : ℕ) × (j < m) × (iterate (nameOf k before) j u ≡ some s)) → Leads m v
+      → ((u : ℕ) → u < k → (at dist u ≡ unreached → ⊥) → rank u < n → rank u < rank v
+      → (j : ℕ) × (j < m) × (iterate (nameOf k before) j u ≡ some s))
+      → Leads m v
   unfolding iterate Leads
   leads-on m v h there smaller =
       ⊎-elim (λ (e : v ≡ s). (0, omega arith, ap some e)) (λ e. go (inv .others v h e)) (equal-or-not v s)
     where
       go : Label k move (labels dist before by) rank n v → Leads m v
       go (by-move u x w b y in-u done less step d) =
-          let (j, le, way) = smaller u in-u (λ far. omega (arith, few, inv .cheap u in-u done)) less in
+          let (j, le, way) = smaller u in-u (λ far. omega (arith, few, inv .cheap u in-u done)) done less in
           let name : nameOf k before v ≡ some u = name-is k before v h (λ e. omega arith) ∙ ap some b in
           (suc j, omega arith, rw name way)
       go (blank d b y) = absurd (there d)
 
   leads : (m v : ℕ) → v < k → (at dist v ≡ unreached → ⊥) → rank v ≤ m → Leads m v
   unfolding Leads
-  leads zero v h there le = leads-on zero v h there (λ u hu tu less. absurd (omega arith))
+  leads zero v h there le = leads-on zero v h there (λ u hu tu done less. absurd (omega arith))
   leads (suc m) v h there le =
-      leads-on (suc m) v h there (λ u hu tu less. let (j, small-j, way) = leads m u hu tu (omega arith) in (j, omega arith, way))
+      leads-on (suc m) v h there (λ u hu tu done less. let (j, small-j, way) = leads m u hu tu (omega arith) in (j, omega arith, way))
+
+  -- in fewer than k steps, whether the node is settled or waits
+  leads-short : (v : ℕ) → v < k → (at dist v ≡ unreached → ⊥) → (j : ℕ) × (j < k) × (iterate (nameOf k before) j v ≡ some s)
+  unfolding Leads
+  leads-short v h there =
+      ⊎-elim
+      (λ waits.
+      let (j, le, way) =
+      leads-on n v h there (λ u hu tu done less. let (i, small-i, way) = leads (rank u) u hu tu (omega arith) in (i, omega arith, way)) in
+      (j, omega (arith, fewer v h waits), way))
+      (λ done. let (j, le, way) = leads (rank v) v h there (omega arith) in (j, omega (arith, few), way)) (inv .ranks v h)
 
   -- so the lists hold what the search promises
-  pub ended : Certificate k s move (distanceOf k dist) (nameOf k before) (nameOf k by)
+  pub ended : Certificate k s goal move (distanceOf k dist) (nameOf k before) (nameOf k by)
   unfolding Leads
   ended =
       record {
@@ -109,9 +138,9 @@ module _ {k s : ℕ} {move : ℕ → ℕ → Option Arrival} {first : Labels} {r
         start-by = name-none k by s (λ h. inv .start-by);
         inside = λ v c e. distance-some k dist v e .0;
         relaxed =
-            λ u c x b e step.
+            λ u c x b e nearer step.
             let (h, same, there) = distance-some k dist u e in
-            let le = inv .relaxed u x b (settled u h there) step in
+            let le = inv .relaxed u x b (settled u h there (subst (Nearer (distanceOf k dist) goal) (sym same) nearer)) step in
             let in-b = moves .inside u x b step in
             let close = near u h there in
             (at dist (b .node), distance-is k dist (b .node) in-b (λ far. omega (arith, moves .cheap u x b step)), omega arith);
@@ -122,8 +151,7 @@ module _ {k s : ℕ} {move : ℕ → ℕ → Option Arrival} {first : Labels} {r
         chain =
             λ v c e.
             let (h, same, there) = distance-some k dist v e in
-            let (j, le, way) = leads (rank v) v h there (omega arith) in
-            (j, omega (arith, few, settled v h there), way);
+            leads-short v h there;
         unreached =
             λ v e.
             let blanks : v < k → (at before v ≡ absent) × (at by v ≡ absent) = λ h. unnamed v h (distance-none k dist v h e) in

@@ -8,4 +8,5 @@ pub mod Settling
 pub mod Frontier
 pub mod Ended
 pub mod Turning
+pub mod Cut
 pub mod Least

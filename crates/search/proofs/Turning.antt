@@ -1,19 +1,19 @@
 -- From what the search asks of its tables and lists to what its parts ask, and one turn over lists of words. Assumes nothing.
-use mathlib.Core.Path.{_≡_, refl, sym, _∙_}
+use mathlib.Core.Path.{_≡_, refl, sym, _∙_, ap}
 use mathlib.Core.List.{List}
 use Prim.Native.Nat.{ℕ, _+_, _≤_, _<_}
 use native.Mathlib.Omega.{arith}
 use lib.ListN.{length}
 use Rattle.definitions.specs.Basics.{put}
 use Rattle.definitions.specs.Limits.{nodes, commands}
-use Rattle.search.specs.Search.{rowMove, moveOf, Tables, Room, Searched}
+use Rattle.search.specs.Search.{unreached, rowMove, moveOf, Tables, Room, Searched}
 use Rattle.search.specs.Parts.{at, Labels, labels, Blank, Filled, Relaxed, Row, Listing, Grown, Places, Brought}
 use Rattle.search.proofs.Reading.{row-words, move-row, move-some}
 use Rattle.search.proofs.Stores.{put-put}
 use Rattle.search.proofs.Listing.{few}
 use Rattle.search.proofs.Settling.{waiting, Picked, Moves, Settling, begins, hand-cheap, turn}
 use Rattle.search.proofs.Frontier.{Frontier, frontier-first, brought-picked, brought-frontier, turn-frontier, frontier-over}
-use Rattle.search.proofs.Ended.{ended}
+use Rattle.search.proofs.Ended.{AtGoal, ended}
 
 -- what holds before each turn: n nodes are settled, and the list has the reached nodes
 pub record Turns (k s : ℕ) (target price : List ℕ) (first : Labels) (dist before by order : List ℕ) (count n : ℕ) : Type 0 where
@@ -95,22 +95,41 @@ module _ {k s : ℕ} {target price : List ℕ} (tables : Tables k s target price
                 (omega (arith, b .nearest .from, b .nearest .below)) (b .swapped .first ∙ sym (b .node)) (put-put (t .rank) u n) same-row r l g;
           }
 
-  -- after the last turn
-  pub searched : {count n : ℕ} {dist before by dist′ before′ by′ order : List ℕ}
-      → Turns k s target price (labels dist before by) dist′ before′ by′ order count n → count ≤ n → Searched k s target price dist before by dist′ before′ by′
-  searched {count} {n} {dist} {before} {by} {dist′} {before′} {by′} t over =
-      let inv = t .settling in
-      record {
-        certificate =
-            ended dist′ before′ by′ (tables .small) (tables .has-source) tables-moves inv
-            (frontier-over (t .frontier) (omega (arith, turns-few t, tables .small)) over);
-        rest = λ v h. (inv .rest v h .dist, inv .rest v h .before, inv .rest v h .by);
-      }
+  -- what is left where no node that waits is nearer than the goal
+  module _ {goal count n : ℕ} {dist before by dist′ before′ by′ order : List ℕ}
+      (t : Turns k s target price (labels dist before by) dist′ before′ by′ order count n) where
+    searched : ((v : ℕ) → v < k → t .rank v ≡ waiting → at dist′ v < unreached → AtGoal k goal (at dist′) v)
+        → Searched k s goal target price dist before by dist′ before′ by′
+    searched over =
+        let inv = t .settling in
+        record {
+          certificate = ended dist′ before′ by′ (tables .small) (tables .has-source) tables-moves inv over;
+          rest = λ v h. (inv .rest v h .dist, inv .rest v h .before, inv .rest v h .by);
+        }
+
+    -- after the last turn: none that waits is reached
+    pub searched-all : count ≤ n → Searched k s goal target price dist before by dist′ before′ by′
+    searched-all over =
+        searched
+        (λ v h waits near. absurd (omega (arith, frontier-over (t .frontier) (omega (arith, turns-few t, tables .small)) over v h waits)))
+
+    -- where the nearest node that waits is the goal
+    pub searched-goal : {order′ : ℕ → ℕ} {u : ℕ} → Brought (at dist′) (at order) order′ n count u → u ≡ goal
+        → Searched k s goal target price dist before by dist′ before′ by′
+    searched-goal b same =
+        let pick = picked t b in
+        searched
+        (λ v h waits near.
+        record {
+          inside = omega (arith, pick .inside);
+          reached = omega (arith, ap (at dist′) same, pick .reached);
+          nearer = omega (arith, ap (at dist′) same, pick .least v h waits);
+        })
 
 -- a search in lists that were filled before
-pub filled-searched : {k s : ℕ} {target price : List ℕ} (dist before by mid-dist mid-before mid-by : List ℕ) {dist′ before′ by′ : List ℕ}
-    → Filled k s (labels dist before by) (labels mid-dist mid-before mid-by) → Searched k s target price mid-dist mid-before mid-by dist′ before′ by′
-    → Searched k s target price dist before by dist′ before′ by′
+pub filled-searched : {k s goal : ℕ} {target price : List ℕ} (dist before by mid-dist mid-before mid-by : List ℕ) {dist′ before′ by′ : List ℕ}
+    → Filled k s (labels dist before by) (labels mid-dist mid-before mid-by) → Searched k s goal target price mid-dist mid-before mid-by dist′ before′ by′
+    → Searched k s goal target price dist before by dist′ before′ by′
 filled-searched dist before by mid-dist mid-before mid-by fill found =
     record {
       certificate = found .certificate;

@@ -70,15 +70,20 @@ pub record Named (k : ℕ) (move : ℕ → ℕ → Option Arrival) (distance bef
   pub moves : move node command ≡ some (record { node = v; cost = step-cost })
   pub exact : c ≡ node-cost + step-cost
 
--- what the search promises of distances and names
-pub record Certificate (k source : ℕ) (move : ℕ → ℕ → Option Arrival) (distance before by : ℕ → Option ℕ) : Type 0 where
+-- cost c is less than the distance of the goal, if that has one
+abbrev pub Nearer : (ℕ → Option ℕ) → ℕ → ℕ → Type 0
+Nearer distance goal c = (g : ℕ) → distance goal ≡ some g → c < g
+
+-- What the search promises of distances and names. It stops at the goal: of nodes as far as that or farther only the names are promised. A goal
+-- that is none of the k nodes has no distance, and then nothing is left out.
+pub record Certificate (k source goal : ℕ) (move : ℕ → ℕ → Option Arrival) (distance before by : ℕ → Option ℕ) : Type 0 where
   pub start-distance : distance source ≡ some 0
   pub start-before : before source ≡ none
   pub start-by : by source ≡ none
   -- only the k nodes have a distance
   pub inside : (v c : ℕ) → distance v ≡ some c → v < k
-  -- every move from a reached node is accounted for
-  pub relaxed : (u c x : ℕ) (b : Arrival) → distance u ≡ some c → move u x ≡ some b
+  -- every move from a reached node that is nearer than the goal is accounted for
+  pub relaxed : (u c x : ℕ) (b : Arrival) → distance u ≡ some c → Nearer distance goal c → move u x ≡ some b
       → (d : ℕ) × (distance (b .node) ≡ some d) × (d ≤ c + b .cost)
   -- every reached node but the source names a move that gives its distance
   pub named : (v c : ℕ) → (v ≡ source → ⊥) → distance v ≡ some c → Named k move distance before by v c
@@ -89,6 +94,6 @@ pub record Certificate (k source : ℕ) (move : ℕ → ℕ → Option Arrival) 
   pub bound : (v c : ℕ) → distance v ≡ some c → c ≤ (k - 1) * largestMove
 
 -- what the search leaves: the lists hold such distances and names for the first k nodes, and the rest is as it was
-pub record Searched (k source : ℕ) (target price dist before by dist′ before′ by′ : List ℕ) : Type 0 where
-  pub certificate : Certificate k source (moveOf k target price) (distanceOf k dist′) (nameOf k before′) (nameOf k by′)
+pub record Searched (k source goal : ℕ) (target price dist before by dist′ before′ by′ : List ℕ) : Type 0 where
+  pub certificate : Certificate k source goal (moveOf k target price) (distanceOf k dist′) (nameOf k before′) (nameOf k by′)
   pub rest : (v : ℕ) → k ≤ v → (getD dist′ v 0 ≡ getD dist v 0) × (getD before′ v 0 ≡ getD before v 0) × (getD by′ v 0 ≡ getD by v 0)

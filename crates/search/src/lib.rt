@@ -149,10 +149,11 @@ fn relax_all(
     listed
 }
 
-// Finds the least costs in blank lists. The list of the reached nodes begins with the source.
+// Finds the least costs in blank lists, up to the goal. The list of the reached nodes begins with the source.
 fn settle(
     k: usize,
     source: usize,
+    goal: usize,
     target: &[u32],
     price: &[u64],
     dist: &mut [u64],
@@ -162,7 +163,7 @@ fn settle(
     requires { ⌜ Tables k source (now target) (now price)
         × Room k (now dist) (now before) (now by)
         × Blank k source (labels (now dist) (now before) (now by)) ⌝ }
-    ensures { λ _. ⌜ Searched k source (now (target .entry)) (now (price .entry)) (now (dist .entry)) (now (before .entry)) (now (by .entry))
+    ensures { λ _. ⌜ Searched k source goal (now (target .entry)) (now (price .entry)) (now (dist .entry)) (now (before .entry)) (now (by .entry))
         (now (dist .exit)) (now (before .exit)) (now (by .exit)) ⌝ }
 {
     let mut order = [source as u32; 256];
@@ -170,17 +171,22 @@ fn settle(
     let mut n = 0usize;
     while n < count {
         let u = bring(&mut order, n, count, dist);
+        if u == goal {
+            return;
+        }
         count = relax_all(u, target, price, dist, before, by, &mut order, count);
         n += 1;
     }
 }
 
-// Finds the least costs from the source over k nodes, at most 256. Row u of the tables, the 16 entries from 16 * u on, has the moves of node u:
-// where each leads, ABSENT where there is none, and what it costs, at most LARGEST. For each node it leaves the distance and the names of the
-// move by which it is reached, UNREACHED and ABSENT where it is not; entries from k on are untouched.
+// Finds the least costs from the source over k nodes, at most 256, up to the goal, a node; all of them where the goal is none of the k. Row u of the
+// tables, the 16 entries from 16 * u on, has the moves of node u: where each leads, ABSENT where there is none, and what it costs, at most
+// LARGEST. For each node it leaves the distance and the names of the move by which it is reached, UNREACHED and ABSENT where it is not; entries
+// from k on are untouched. Nodes that are no nearer than the goal may have been left at a distance that is not the least.
 pub fn search(
     k: usize,
     source: usize,
+    goal: usize,
     target: &[u32],
     price: &[u64],
     dist: &mut [u64],
@@ -188,9 +194,9 @@ pub fn search(
     by: &mut [u32],
 )
     requires { ⌜ Tables k source (now target) (now price) × Room k (now dist) (now before) (now by) ⌝ }
-    ensures { λ _. ⌜ Searched k source (now (target .entry)) (now (price .entry)) (now (dist .entry)) (now (before .entry)) (now (by .entry))
+    ensures { λ _. ⌜ Searched k source goal (now (target .entry)) (now (price .entry)) (now (dist .entry)) (now (before .entry)) (now (by .entry))
         (now (dist .exit)) (now (before .exit)) (now (by .exit)) ⌝ }
 {
     fill(k, source, dist, before, by);
-    settle(k, source, target, price, dist, before, by);
+    settle(k, source, goal, target, price, dist, before, by);
 }

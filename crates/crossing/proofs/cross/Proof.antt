@@ -78,7 +78,7 @@ returns c =
     let two = filled .before .before .before .before .before in
     let one = two .before .before .before in
     let e = one .before .before .before .before .before .before .before in
-    let kept = done .search .kept .1 .1 .1 .1 in
+    let kept = done .search .kept .1 .1 .1 .1 .1 in
     let room = e .pre .1 in
     cross-done (e .pre .0) (closed 64) (one .open-above .ensures) (two .open-above2 .ensures) (filled .tables .ensures)
     (record {

@@ -33,6 +33,9 @@ cast-search c = search needs
 cast-search-2 : tie.Need-cast-search-2
 cast-search-2 c = search needs
 
+cast-search-3 : tie.Need-cast-search-3
+cast-search-3 c = search needs
+
 search-requires : tie.Need-search-requires
 search-requires c κs =
     let at-word = c .before .before .before .before .before in
@@ -81,7 +84,7 @@ returns c =
     let at-tables = at-start .before .before .before .before .before .before in
     let at-gather = at-tables .before .before .before .before .before .before .before .before .before in
     let entry = at-gather .before .before .before .before .before .before .before .before .before .before .before .before in
-    let kept = at-search .search .kept .1 .1 .1 .1 in
+    let kept = at-search .search .kept .1 .1 .1 .1 .1 in
     let room = entry .pre .7 in
     searched-found (at-gather .gather .ensures) (at-tables .tables .ensures) (at-start .start .ensures) (at-word .word .ensures)
     (record {
@@ -101,6 +104,7 @@ find-spec =
     word-requires
     cast-search
     cast-search-2
+    cast-search-3
     search-requires
     same-length
     same-length-2
