@@ -51,6 +51,8 @@ fn plans(holding: &Holding, agreement: &mut Agreement) {
     let search = |flat: &Flat, i: usize| flat.search(pairs[i].0 as usize, pairs[i].1 as usize).map(|way| way.cost);
     let whole = |i, times: &mut _| timed(times, || search(&Flat::of(&holding.book), i));
     rounds(ROUNDS, |i, t| holding.plan(pairs[i], t), whole, |a, b| agreement.of(a, b)).print("plan", "flatten and search");
+    let plain = |i, times: &mut _| timed(times, || search(&Flat::step_by_step(&holding.book), i));
+    rounds(ROUNDS, |i, t| holding.plan(pairs[i], t), plain, |a, b| agreement.of(a, b)).print("plan", "flatten step by step and search");
     let alone = |i, times: &mut _| timed(times, || search(&flat, i));
     rounds(ROUNDS, |i, t| holding.plan(pairs[i], t), alone, |a, b| agreement.of(a, b)).print("plan", "search alone");
     let flatten = |_, times: &mut _| timed(times, || Flat::of(&holding.book));

@@ -52,6 +52,20 @@ impl Flat {
         done[n] = true;
     }
 
+    /// The same by the text of document 01 alone: each state and command climbs and enters by itself.
+    pub fn step_by_step(book: &[u32]) -> Flat {
+        let mut flat = Flat { moves: vec![[BLANK; COMMANDS]; NODES] };
+        for n in (0..NODES).filter(|&n| book[node_at(n)] != ABSENT && book[node_at(n) + 1] == ABSENT) {
+            for x in 0..COMMANDS {
+                let word = climb(book, n, x);
+                if word != BLANK {
+                    flat.moves[n][x] = enter(book, (word >> 16) as usize) << 16 | word & 0xffff;
+                }
+            }
+        }
+        flat
+    }
+
     pub fn step(&self, state: usize, command: usize) -> Option<(usize, u32)> {
         let word = self.moves[state][command];
         (word != BLANK).then_some(((word >> 16) as usize, word & 0xffff))
@@ -100,6 +114,19 @@ impl Flat {
             }
         }
         costs.iter().map(|&c| (c != UNSEEN).then_some(c)).collect()
+    }
+}
+
+/// The transition that a command uses at a state, `BLANK` where it finds none.
+fn climb(book: &[u32], state: usize, command: usize) -> u32 {
+    let mut n = state;
+    loop {
+        let word = book[node_at(n) + 2 + command];
+        let holder = book[machine_at(book[node_at(n)] as usize)];
+        if word != BLANK || holder == ABSENT {
+            return word;
+        }
+        n = holder as usize;
     }
 }
 

@@ -55,7 +55,7 @@ module _ {t : Tree} (sound : Sound t) (r : Rows) (places : List ℕ) (n x : ℕ)
     has = some-transition t sound n x says there
 
     -- its target is a node
-    pub entry-target : w / costs < nodes
+    entry-target : w / costs < nodes
     unfolding counting
     entry-target = target-range t sound n x _ has .1
 
@@ -65,13 +65,15 @@ module _ {t : Tree} (sound : Sound t) (r : Rows) (places : List ℕ) (n x : ℕ)
     target-owner = let (m, own, own-target) = sound .transition-owned n x _ has in own-target ∙ sym own
 
     -- a move
-    pub entry-costs : Placing t places n → {e v c : ℕ} → nodeExit t r n x ≡ some e → v ≡ at places (w / costs) → c ≡ 0 + e + w % costs
-        → entryMove v c ≡ placed (at places) (move t r n x)
+    pub entry-costs : Placing t places n → {e v c : ℕ} → nodeExit t r n x ≡ some e → v ≡ at places (w / costs % nodes)
+        → c ≡ 0 + e + w % costs → entryMove v c ≡ placed (at places) (move t r n x)
     entry-costs placing {e} {v} {c} exit at-v sum =
         let small = placing .small (w / costs) target-owner in
+        let target : w / costs % nodes ≡ w / costs = omega (arith, entry-target) in
+        let here : v ≡ at places (w / costs) = at-v ∙ ap (at places) target in
         let same : c ≡ e + w % costs = omega arith in
         rw (move-by t r n x has exit)
-        (entry-some v c (omega arith) ∙ ap₂ (λ (u k : ℕ). some (record { node = u; cost = k })) at-v same)
+        (entry-some v c (omega arith) ∙ ap₂ (λ (u k : ℕ). some (record { node = u; cost = k })) here same)
 
 -- a node with a place is in range
 pub placing-range : {t : Tree} → Sound t → {places : List ℕ} {n : ℕ} → Placing t places n → n < nodes

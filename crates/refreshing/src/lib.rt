@@ -88,30 +88,28 @@ fn leave(book: &[u32], sheet: &[u32], n: u32, x: u32, d: u64, w: u32) -> u64
     d + e + wide(w)
 }
 
-// The move of node n for command x, as an entry of the tables.
+// The move of node n for command x, as an entry of the tables. What it may need is read first, so that the tests only pick.
 fn table_entry(book: &[u32], sheet: &[u32], places: &[u32], n: u32, x: u32) -> Entry
     requires { ⌜ Holding (now book) (now sheet) × Placing (treeOf (now book)) (now places) n × (x < commands) ⌝ }
     ensures { λ r. ⌜ entryMove (r .target) (r .price)
         ≡ placed (at (now (places .entry))) (move (treeOf (now (book .entry))) (rowsOf (now (sheet .entry))) n x) ⌝ }
 {
     let w = truesheet::counting(book, n, x);
+    let price = leave(book, sheet, n, x, 0, w % 65536);
+    let v = word(places, w / 65536 % book::NODES);
     if w == book::BLANK {
         return Entry {
             target: book::ABSENT,
             price: 0,
         };
     }
-    let price = leave(book, sheet, n, x, 0, w % 65536);
     if price == search::UNREACHED {
         return Entry {
             target: book::ABSENT,
             price: 0,
         };
     }
-    Entry {
-        target: word(places, w / 65536),
-        price,
-    }
+    Entry { target: v, price }
 }
 
 // Fills the tables with the moves of the k nodes.
@@ -227,7 +225,8 @@ fn write_nodes(sheet: &mut [u32], k: u32, members: &[u32], dist: &[u64], before:
     }
 }
 
-// What it costs to leave a machine by command x from its node n at distance d; UNREACHED where that is no way out.
+// What it costs to leave a machine by command x from its node n at distance d; UNREACHED where that is no way out. The sum is made first,
+// so that the last test only picks.
 fn way_cost(book: &[u32], sheet: &[u32], n: u32, d: u64, x: u32) -> u64
     requires { ⌜ Holding (now book) (now sheet) × (n < nodes) × IsNear d × (x < commands) ⌝ }
     ensures { λ r. ⌜ WayCosts (treeOf (now (book .entry))) (rowsOf (now (sheet .entry))) n (reached d) x r ⌝ }
@@ -235,10 +234,11 @@ fn way_cost(book: &[u32], sheet: &[u32], n: u32, d: u64, x: u32) -> u64
     if d == search::UNREACHED {
         return search::UNREACHED;
     }
+    let way = leave(book, sheet, n, x, d, 0);
     if truesheet::counting(book, n, x) != book::BLANK {
         return search::UNREACHED;
     }
-    leave(book, sheet, n, x, d, 0)
+    way
 }
 
 // The cheapest way out by command x from the k nodes.

@@ -5,7 +5,7 @@ use mathlib.Core.Logic.{⊎-elim}
 use mathlib.Core.Bool.{Bool, true, false, cond, not, _&&_}
 use mathlib.Core.Option.{Option, none, some}
 use mathlib.Core.List.{List, [], _∷_, _++_, append-nil, append-assoc}
-use Prim.Native.Nat.{ℕ, zero, suc, _+_, _*_, _^_, _≤_, _<_}
+use Prim.Native.Nat.{ℕ, zero, suc, _+_, _*_, _≤_, _<_}
 use native.Mathlib.Nat.{suc-mul, add-zero}
 use native.Mathlib.Numerals.{add-one}
 use native.Mathlib.Omega.{arith}
@@ -365,17 +365,3 @@ unfolding written
 whole-stream t {m} {f} e st =
     ap (λ (k : ℕ). (0x10 ∷ k ∷ pair f) ++ (joined levels (writtenLevel t) ++ joined nodes (writtenArrows t))) e
     ∙ ap (λ (b : List ℕ). b ++ (joined levels (writtenLevel t) ++ joined nodes (writtenArrows t))) (begin-root t st)
-
--- its length fits 32 bits
-pub stream-fits : (t : Tree) → length (written t) < 2 ^ 32
-unfolding written writtenBegin
-stream-fits t =
-    let parts = joined levels (writtenLevel t) ++ joined nodes (writtenArrows t) in
-    omega (
-      arith,
-      length-append (writtenBegin t) parts,
-      length-append (joined levels (writtenLevel t)) (joined nodes (writtenArrows t)),
-      option-short 4 (λ f. 0x10 ∷ t .root ∷ pair f) (t .start (t .root)) (λ f. omega arith),
-      levels-short t,
-      joined-short 128 nodes (writtenArrows t) (arrows-short t),
-    )

@@ -8,6 +8,7 @@ ghost use Rattle.definitions.specs.Limits.{machines, nodes, commands, levels};
 ghost use Rattle.definitions.specs.Tree.{above, level};
 ghost use Rattle.definitions.specs.Book.{word, treeOf, WellFormed};
 ghost use Rattle.definitions.specs.Write.{pair, writtenAdd, writtenRefine, writtenArrow, written, WriteSays};
+ghost use Rattle.wellformed.specs.Decides.{Decides};
 ghost use Rattle.writing.specs.Meaning.{Stored, Levels, writtenLevel, writtenArrows, answerOf};
 
 // What Write answers: the length of the stream, or the number of a refusal.
@@ -18,6 +19,9 @@ pub enum WriteAnswer {
 
 // How many levels there are.
 const LEVELS: u32 = 8;
+
+// The most bytes that a stream of Write has.
+const LONGEST: usize = 33918;
 
 // The node that holds node n's machine.
 fn above(book: &[u32], n: u32) -> u32
@@ -265,6 +269,20 @@ pub fn stream_length(book: &[u32]) -> usize
     put_stream(book, &mut nowhere)
 }
 
+// Whether a list of this length has room for the stream.
+fn has_room(book: &[u32], len: usize) -> bool
+    requires { ⌜ WellFormed (now book) ⌝ }
+    ensures { λ r. ⌜ Decides r (length (written (treeOf (now (book .entry)))) ≤ len) ⌝ }
+{
+    if LONGEST <= len {
+        return true;
+    }
+    if len < stream_length(book) {
+        return false;
+    }
+    true
+}
+
 // Stores the stream at the front of a list that has room for it; the stream's length. The rest of the list is untouched.
 pub fn write_stream(book: &[u32], out: &mut [u8]) -> usize
     requires { ⌜ WellFormed (now book) × (length (written (treeOf (now book))) ≤ length (now out)) ⌝ }
@@ -285,7 +303,7 @@ pub fn write(book: &[u32], out: &mut [u8]) -> WriteAnswer
     if !wellformed::well_formed(book) {
         return WriteAnswer::Refused(2);
     }
-    if out.len() < stream_length(book) {
+    if !has_room(book, out.len()) {
         return WriteAnswer::Refused(15);
     }
     let n = write_stream(book, out);

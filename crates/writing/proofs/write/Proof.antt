@@ -8,8 +8,8 @@ use native.Mathlib.Omega.{arith}
 use denote.Ref.{now}
 use Rattle.definitions.specs.Book.{treeOf}
 use Rattle.definitions.specs.Answer.{gives}
+use Rattle.samebook.proofs.Bound.{write-bound}
 use Rattle.wellformed.proofs.Decide.{passed, refused}
-use Rattle.writing.proofs.Laws.{stream-fits}
 use Rattle.writing.proofs.write.Statement.{statement}
 use Rattle.writing.proofs.write.Tie as tie
 
@@ -24,8 +24,8 @@ returns-2 c =
     let f = c .before in
     inr (λ wrong. wrong (f .before .if1 .left), inl (refused (f .well-formed .result) (f .well-formed .ensures) (c .if2 .taken), (refl, refl)))
 
-stream-length-requires : tie.Need-stream-length-requires
-stream-length-requires c κs =
+has-room-requires : tie.Need-has-room-requires
+has-room-requires c κs =
     let f = c .before in
     passed (f .well-formed .result) (f .well-formed .ensures) (c .if2 .left)
 
@@ -35,22 +35,28 @@ returns-3 c =
     let g = n .before in
     let f = g .before in
     let well = passed (f .well-formed .result) (f .well-formed .ensures) (g .if2 .left) in
+    let short = refused (n .has-room .result) (n .has-room .ensures) (c .if3 .taken) in
     inr (
       λ wrong. wrong (f .before .if1 .left),
-      inr (λ bad. bad well, inl (omega (arith, c .if3 .taken, n .stream-length .ensures), (refl, refl))),
+      inr (λ bad. bad well, inl (omega (arith, short), (refl, refl))),
     )
 
 write-stream-requires : tie.Need-write-stream-requires
 write-stream-requires c κs =
     let n = c .before .before in
     let g = n .before in
-    let f = g .before in
-    (passed (f .well-formed .result) (f .well-formed .ensures) (g .if2 .left), omega (arith, c .before .if3 .left, n .stream-length .ensures))
+    let f = g .before in (
+      passed (f .well-formed .result) (f .well-formed .ensures) (g .if2 .left),
+      passed (n .has-room .result) (n .has-room .ensures) (c .before .if3 .left),
+    )
 
-cast-t10 : tie.Need-cast-t10
-cast-t10 c =
-    let e = c .before .before .before .before .before .before .before .before .before .before .before in
-    omega (arith, c .before .before .write-stream .ensures .0, stream-fits (treeOf (now (e .args .book))))
+cast-t9 : tie.Need-cast-t9
+cast-t9 c =
+    let w = c .before .before in
+    let g = w .before .before .before .before in
+    let f = g .before in
+    let well = passed (f .well-formed .result) (f .well-formed .ensures) (g .if2 .left) in
+    omega (arith, w .write-stream .ensures .0, write-bound (treeOf (now (f .before .before .before .before .args .book))) (well .sound))
 
 same-length : tie.Need-same-length
 same-length c = search needs
@@ -62,16 +68,11 @@ returns-4 c =
     let g = n .before in
     let f = g .before in
     let well = passed (f .well-formed .result) (f .well-formed .ensures) (g .if2 .left) in
+    let fits = passed (n .has-room .result) (n .has-room .ensures) (w .before .before .if3 .left) in
     let (count, bytes) = w .write-stream .ensures in
     inr (
       λ wrong. wrong (f .before .if1 .left),
-      inr (
-        λ bad. bad well,
-        inr (
-          λ small. omega (arith, w .before .before .if3 .left, n .stream-length .ensures, small),
-          (ap (λ (k : ℕ). gives (k ∷ [])) count, bytes),
-        ),
-      ),
+      inr (λ bad. bad well, inr (λ small. omega (arith, fits, small), (ap (λ (k : ℕ). gives (k ∷ [])) count, bytes))),
     )
 
 pub write-spec : {M : Type 1} → statement M
@@ -81,9 +82,9 @@ write-spec =
     returns
     well-formed-requires
     returns-2
-    stream-length-requires
+    has-room-requires
     returns-3
     write-stream-requires
-    cast-t10
+    cast-t9
     same-length
     returns-4)
