@@ -1,4 +1,4 @@
--- Document 01's numbers, each named once.
+-- Document 01's limits and sizes, each named once.
 use Prim.Native.Nat.{ℕ, _*_}
 
 -- how many machines, nodes and commands there are: each is a number under its limit

@@ -1,13 +1,12 @@
 -- The certificate says the least cost over all lists of moves: that of the goal, and where the goal has no distance that of every node. Assumes
 -- nothing.
-use mathlib.Core.Path.{_≡_, refl, sym, _∙_, subst}
+use mathlib.Core.Path.{_≡_, refl, sym, subst}
 use mathlib.Core.Logic.{_⊎_, ⊎-elim}
 use mathlib.Core.Option.{Option, none, some}
-use mathlib.Core.List.{List}
 use Prim.Native.Nat.{ℕ}
 use native.Mathlib.Omega.{arith}
 use Rattle.definitions.specs.Basics.{Least}
-use Rattle.definitions.specs.Step.{Arrival, runBy}
+use Rattle.definitions.specs.Step.{Arrival}
 use Rattle.definitions.proofs.Options.{none-some, some-same}
 use Rattle.definitions.proofs.Runs.{bounded-run}
 use Rattle.definitions.proofs.Reaching.{Reaches, Led, named-reaches, least-reaches}
