@@ -1,5 +1,4 @@
--- `printing::print_lines` meets its contract: the turns so far and those that follow come to the end, and each goes on further in the input.
--- Assumes nothing.
+-- `printing::print_lines` ends: each turn goes on further in the input, on a well-formed book and a true sheet. Assumes nothing.
 use mathlib.Core.Path.{_≡_, refl, sym, _∙_}
 use Prim.Native.Nat.{_-_}
 use native.Mathlib.Omega.{arith}
@@ -9,13 +8,12 @@ use lib.Seq.{length-take-le}
 use borrow.Author.Needs.{needs}
 use Rattle.lines.specs.Meaning.{longestLine, TurnSays}
 use Rattle.lines.specs.declared.Turn.the-variants.{Line, End}
-use Rattle.printing.specs.Meaning.{Running}
-use Rattle.printing.proofs.Runs.{run-starts, run-on, run-ends, turn-told}
+use Rattle.printing.proofs.Runs.{Running, run-starts, run-on, turn-told}
 use Rattle.printing.proofs.print_lines.Statement.{statement}
 use Rattle.printing.proofs.print_lines.Tie as tie
 
 abbrev Inv-loop : tie.InvT-loop
-Inv-loop book₀ sheet₀ input line₀ at₀ book sheet line at = (length line ≡ longestLine) × Running input book₀ sheet₀ at book sheet
+Inv-loop book₀ sheet₀ input line₀ at₀ book sheet line at = (length line ≡ longestLine) × Running input at book sheet
 
 abbrev μ-loop : tie.MeasureT-loop
 μ-loop book₀ sheet₀ input line₀ at₀ book sheet line at = length input - at
@@ -56,7 +54,7 @@ loop-less : tie.Need-loop-less Inv-loop μ-loop
 loop-less c = omega (arith, told (c .before .before) .fits)
 
 loop-again : tie.Need-loop-again Inv-loop μ-loop
-loop-again c = (c .before .before .before .before .before .before .before .before .before .before .next-line .kept .1 .1 .1 .1 .0 ∙ c .before .before .before .before .before .before .before .before .before .before .before .before .before .before .loop .inv .0, run-on (c .before .before .before .before .before .before .before .before .before .before .before .before .before .before .loop .inv .1) (told (c .before .before)))
+loop-again c = (c .before .before .before .before .before .before .before .before .before .before .next-line .kept .1 .1 .1 .1 .0 ∙ c .before .before .before .before .before .before .before .before .before .before .before .before .before .before .loop .inv .0, run-on (told (c .before .before)))
 
 enum-told : tie.Need-enum-told Inv-loop μ-loop
 enum-told c = search needs
@@ -75,7 +73,7 @@ same-length-2 : tie.Need-same-length-2 Inv-loop μ-loop
 same-length-2 c = last c .filled .length ∙ sym (c .before .before .before .before .before .before .before .before .before .before .before .before .before .before .before .pre .1 .length)
 
 returns : tie.Need-returns Inv-loop μ-loop
-returns c = run-ends (c .before .before .before .before .before .before .before .before .before .before .before .loop .inv .1) (last c)
+returns c = search needs
 
 pub print-lines-spec : {M : Type 1} → statement M
 print-lines-spec =

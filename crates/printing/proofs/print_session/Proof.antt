@@ -1,11 +1,10 @@
--- `printing::print_session` meets its contract: the whole input, or its front. Assumes nothing.
+-- `printing::print_session`: the front of a long input has as many bytes as a session reads. Assumes nothing.
 use mathlib.Core.Path.{sym}
 use native.Mathlib.Omega.{arith}
 use denote.Ref.{now}
 use lib.Seq.{length-take-le}
 use borrow.Author.Needs.{needs}
 use Rattle.definitions.specs.Limits.{longestInput}
-use Rattle.printing.proofs.Runs.{ended-short, ended-long}
 use Rattle.printing.proofs.print_session.Statement.{statement}
 use Rattle.printing.proofs.print_session.Tie as tie
 
@@ -16,13 +15,13 @@ print-input-requires : tie.Need-print-input-requires
 print-input-requires c κs = search needs
 
 returns : tie.Need-returns
-returns c = ended-long (now (c .before .before .before .before .args .input)) (c .print-input .ensures)
+returns c = search needs
 
 print-input-requires-2 : tie.Need-print-input-requires-2
 print-input-requires-2 c κs = search needs
 
 returns-2 : tie.Need-returns-2
-returns-2 c = ended-short (c .before .if1 .left) (c .print-input2 .ensures)
+returns-2 c = search needs
 
 pub print-session-spec : {M : Type 1} → statement M
 print-session-spec =
