@@ -14,7 +14,8 @@ use Rattle.definitions.specs.Edit.{heldWithin, without, withStale, edited, touc
 use Rattle.definitions.proofs.Words.{same-rows, holder-range}
 use Rattle.definitions.proofs.Commands.{TakenRemove, taken-remove}
 use Rattle.book.specs.Fields.{Holds}
-use Rattle.clearing.specs.Gone.{Left, chosen, upTo, NodesGone, MachinesGone, withoutNodes, withoutMachines, withoutMachineRows}
+use Rattle.marking.specs.Chosen.{chosen, upTo}
+use Rattle.clearing.specs.Gone.{Left, NodesGone, MachinesGone, withoutNodes, withoutMachines, withoutMachineRows}
 use Rattle.clearing.proofs.Laws.{left-then, nodes-all, machines-all}
 use Rattle.marking.specs.Stale.{withBlankNodes, LeavesStaleOver}
 use Rattle.marking.proofs.Blanks.{leaves-same}

@@ -18,7 +18,7 @@ use Rattle.definitions.proofs.Options.{equal-or-not}
 use Rattle.definitions.proofs.Path.{level-on}
 use Rattle.definitions.proofs.Words.{present-word, no-owner, no-holder, owner-range, holder-range}
 use Rattle.definitions.proofs.Commands.{within-top, within-up}
-use Rattle.clearing.specs.Gone.{chosen}
+use Rattle.marking.specs.Chosen.{chosen}
 use Rattle.removing.specs.Within.{Listed, heldBy}
 
 -- a node is within itself

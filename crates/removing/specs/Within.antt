@@ -9,7 +9,7 @@ use lib.ListN.{length}
 use Rattle.definitions.specs.Basics.{_>>=_, option, unless, put}
 use Rattle.definitions.specs.Tree.{Tree, Transition}
 use Rattle.book.specs.Fields.{withTransitions}
-use Rattle.clearing.specs.Gone.{chosen}
+use Rattle.marking.specs.Chosen.{chosen}
 
 -- a list of so many numbers has 1 at those that pass the test, as far as i
 pub record Listed (size i : ℕ) (test : ℕ → Bool) (list : List ℕ) : Type 0 where
