@@ -19,7 +19,8 @@ use Rattle.definitions.proofs.Words.{same-rows, encode-treeOf, marks-words}
 use Rattle.book.specs.Fields.{Holds, withRoot, withStartOf, withOwner}
 use Rattle.book.proofs.Stores.{holds-then}
 use Rattle.sheet.specs.Fields.{Marks, Leaves, withMark}
-use Rattle.clearing.specs.Gone.{chosen, upTo, NodesGone, MachinesGone, withoutMachines, withoutMachineRows}
+use Rattle.marking.specs.Chosen.{chosen, upTo}
+use Rattle.clearing.specs.Gone.{NodesGone, MachinesGone, withoutMachines, withoutMachineRows}
 use Rattle.clearing.proofs.Laws.{left-then, nodes-all, machines-all}
 use Rattle.editing.specs.Edited.{Edited}
 use Rattle.beginning.specs.Empty.{emptyTree, emptyRows, Emptied}

@@ -1,28 +1,28 @@
 -- Numbers fall out of use one after the other: tree and rows after each turn of a loop. Assumes nothing.
-use mathlib.Core.Path.{_≡_, refl, ap, sym, _∙_, fun-ext}
-use mathlib.Core.Logic.{_⊎_, inl, inr, ⊎-elim}
-use mathlib.Core.Bool.{Bool, true, false, cond, _&&_, _||_, and-true, and-false}
+use mathlib.Core.Path.{_≡_, refl, ap, sym, _∙_}
+use mathlib.Core.Bool.{Bool, true, false, cond, _&&_, _||_, and-true}
 use mathlib.Core.Option.{Option, none}
 use mathlib.Core.List.{List}
 use Prim.Native.Nat.{ℕ, _+_, _<_}
-use native.Mathlib.Omega.{arith}
 use lib.Dec.{eqb, ltb}
 use lib.ListN.{length}
-use borrow.Author.Tests.{ltb-true, ltb-false, lt-ltb, le-ltb, eq-eqb, ne-eqb}
+use borrow.Author.Tests.{ltb-true}
 use Rattle.definitions.specs.Basics.{unless}
 use Rattle.definitions.specs.Limits.{machines, nodes, commands}
 use Rattle.definitions.specs.Tree.{Tree}
 use Rattle.definitions.specs.Book.{number, transitionOf, under, nodeWord, machineWord, treeOf}
 use Rattle.definitions.specs.Sheet.{Rows, costOf, machineRowWord, nodeRowWord, rowsOf}
-use Rattle.definitions.proofs.Options.{equal-or-not}
 use Rattle.definitions.proofs.Words.{same-tree, same-rows}
 use Rattle.book.specs.Fields.{withoutNode}
 use Rattle.book.proofs.Stores.{holds-then}
 use Rattle.sheet.specs.Fields.{withMark, withBlankMachine}
 use Rattle.sheet.proofs.Stores.{leaves-then}
+use Rattle.marking.specs.Chosen.{only, upTo}
 use Rattle.marking.specs.Stale.{withBlankNodes}
+use Rattle.marking.proofs.Chosen.{none-up, none-only, one-only, up-more, unless-both}
+use Rattle.marking.proofs.Blanks.{blank-both}
 use Rattle.clearing.specs.Gone.{Sized, Left, withoutNodes, withoutMachines, withoutMachineRows}
-use Rattle.clearing.specs.Gone.{NodeDropped, MachineDropped, NodesGone, MachinesGone, only, upTo}
+use Rattle.clearing.specs.Gone.{NodeDropped, MachineDropped, NodesGone, MachinesGone}
 
 -- what was left is left with the same tree and rows by other names
 pub left-same : {a b c : List ℕ} {t u : Tree} {r q : Rows} → Left a b c t r → t ≡ u → r ≡ q → Left a b c u q
@@ -50,40 +50,7 @@ left-idle book sheet sized =
 pub left-sized : {a b c : List ℕ} {t : Tree} {r : Rows} → Left a b c t r → Sized b c
 left-sized left = record { book = left .book .length; sheet = left .sheet .length }
 
--- ---- tests
-
--- nothing is below 0; i alone does not pass where i does not
-pub none-up : (g : ℕ → Bool) → (λ (k : ℕ). false) ≡ upTo g 0
-none-up g = fun-ext λ k. sym (rw (le-ltb k 0 (omega arith)) (and-false (g k)))
-
-pub none-only : (g : ℕ → Bool) (i : ℕ) → g i ≡ false → (λ (k : ℕ). false) ≡ only g i
-none-only g i off =
-    fun-ext λ k. sym (⊎-elim (λ e. ap (λ j. g j && eqb k i) e ∙ rw off) (λ ne. rw (ne-eqb k i ne) (and-false (g k))) (equal-or-not k i))
-
--- i alone passes where i does
-pub one-only : (g : ℕ → Bool) (i : ℕ) → g i ≡ true → (λ (k : ℕ). eqb k i) ≡ only g i
-one-only g i on =
-    fun-ext λ k. sym (⊎-elim (λ e. ap (λ j. g j && eqb k i) e ∙ rw on) (λ ne. rw (ne-eqb k i ne) (and-false (g k))) (equal-or-not k i))
-
--- a number below i + 1 is below i or is i
-pub up-more : (g : ℕ → Bool) (i : ℕ) → (λ (k : ℕ). upTo g i k || only g i k) ≡ upTo g (i + 1)
-up-more g i = fun-ext λ k. go k (g k)
-  where
-    pick : (k : ℕ) (b : Bool) → ltb k i ≡ b → (k ≡ i) ⊎ (k ≡ i → ⊥) → (b || eqb k i) ≡ ltb k (i + 1)
-    pick k true e at = sym (lt-ltb k (i + 1) (omega (arith, ltb-true k i e)))
-    pick k false e (inl same) = eq-eqb k i same ∙ sym (lt-ltb k (i + 1) (omega arith))
-    pick k false e (inr off) = ne-eqb k i off ∙ sym (le-ltb k (i + 1) (omega (arith, ltb-false k i e)))
-
-    go : (k : ℕ) (b : Bool) → (b && ltb k i || b && eqb k i) ≡ (b && ltb k (i + 1))
-    go k true = pick k (ltb k i) refl (equal-or-not k i)
-    go k false = refl
-
 -- ---- by one test and then by another
-
-unless-both : {A : Type 0} (a b : Bool) (o : Option A) → unless b (unless a o) ≡ unless (a || b) o
-unless-both true true o = refl
-unless-both true false o = refl
-unless-both false b o = refl
 
 false-both : (a b s : Bool) → cond b false (cond a false s) ≡ cond (a || b) false s
 false-both true true s = refl
@@ -99,11 +66,6 @@ machines-both : (t : Tree) (a b : ℕ → Bool) → withoutMachines (withoutMach
 machines-both t a b =
     same-tree _ _ refl (λ n. refl) (λ n. refl) (λ m. unless-both (a m) (b m) (t .start m)) (λ m. unless-both (a m) (b m) (t .holder m))
     (λ n x. refl)
-
-node-rows-both : (r : Rows) (a b : ℕ → Bool) → withBlankNodes (withBlankNodes r a) b ≡ withBlankNodes r (λ k. a k || b k)
-node-rows-both r a b =
-    same-rows _ _ (λ m. refl) (λ m x. refl) (λ m x. refl) (λ n. unless-both (a n) (b n) (r .cost n))
-    (λ n. unless-both (a n) (b n) (r .before n)) (λ n. unless-both (a n) (b n) (r .by n))
 
 machine-rows-both : (r : Rows) (a b : ℕ → Bool) → withoutMachineRows (withoutMachineRows r a) b ≡ withoutMachineRows r (λ k. a k || b k)
 machine-rows-both r a b =
@@ -146,7 +108,7 @@ module _ (g : ℕ → Bool) (i : ℕ) where
   nodes-more b {s} first second =
       left-same (left-then (λ t. withoutNodes t (only g i)) (λ r. withBlankNodes r (only g i)) first second)
       (nodes-both (treeOf b) (upTo g i) (only g i) ∙ ap (withoutNodes (treeOf b)) (up-more g i))
-      (node-rows-both (rowsOf s) (upTo g i) (only g i) ∙ ap (withBlankNodes (rowsOf s)) (up-more g i))
+      (blank-both (rowsOf s) (upTo g i) (only g i) ∙ ap (withBlankNodes (rowsOf s)) (up-more g i))
 
   -- the last
   pub nodes-end : i ≡ nodes → (b : List ℕ) {s b′ s′ : List ℕ} → NodesGone b s b′ s′ (upTo g i) → NodesGone b s b′ s′ (upTo g nodes)

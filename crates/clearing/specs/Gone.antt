@@ -1,10 +1,9 @@
 -- A tree and rows where the nodes, or the machines, that pass a test are not in use, and what a book's and a sheet's words are left with.
 use mathlib.Core.Path.{_≡_}
-use mathlib.Core.Bool.{Bool, false, cond, _&&_}
+use mathlib.Core.Bool.{Bool, false, cond}
 use mathlib.Core.List.{List}
 use Prim.Native.Nat.{ℕ}
-use lib.Dec.{eqb, ltb}
-use lib.ListN.{length, getD}
+use lib.ListN.{length}
 use Rattle.definitions.specs.Basics.{unless}
 use Rattle.definitions.specs.Limits.{bookLength, sheetLength}
 use Rattle.definitions.specs.Tree.{Tree}
@@ -76,14 +75,3 @@ NodeDropped book sheet book′ sheet′ n = Left sheet book′ sheet′ (without
 abbrev pub MachineDropped : List ℕ → List ℕ → List ℕ → List ℕ → ℕ → Type 0
 MachineDropped book sheet book′ sheet′ m =
     Left sheet book′ sheet′ (withoutMachine (treeOf book) m) (withMark (withBlankMachine (rowsOf sheet) m) m false)
-
--- whether a list has 1 at a number
-abbrev pub chosen : List ℕ → ℕ → Bool
-chosen list k = eqb (getD list k 0) 1
-
--- a test that is passed by i alone, and by the numbers below i alone
-abbrev pub only : (ℕ → Bool) → ℕ → ℕ → Bool
-only gone i k = gone k && eqb k i
-
-abbrev pub upTo : (ℕ → Bool) → ℕ → ℕ → Bool
-upTo gone i k = gone k && ltb k i

@@ -1,6 +1,6 @@
--- Marking from a node up: what is left to mark from the node in hand is, with what was marked, what is to be marked from the first node.
--- Assumes nothing.
-use mathlib.Core.Path.{_≡_, refl, ap, sym, _∙_, fun-ext}
+-- Marking from a node up. The machines over the node that were not stale yet are listed one by one; to mark these and to blank their rows
+-- and their nodes' rows is to mark and blank all over the node. Assumes nothing.
+use mathlib.Core.Path.{_≡_, refl, ap, sym, _∙_, fun-ext, subst}
 use mathlib.Core.Logic.{_⊎_, inl, inr, ⊎-elim}
 use mathlib.Core.Bool.{Bool, true, false, not, _&&_, _||_, or-true, or-false}
 use mathlib.Core.Option.{Option, none, some}
@@ -8,26 +8,30 @@ use mathlib.Core.List.{List}
 use Prim.Native.Nat.{ℕ, zero, suc, _+_, _≤_, _<_}
 use native.Mathlib.Omega.{arith}
 use lib.Dec.{eqb}
-use lib.ListN.{length}
+use lib.ListN.{length, set, replicate, length-set, length-replicate}
 use native.Mathlib.Decide.{decLt}
 use borrow.Author.Tests.{eq-eqb, ne-eqb}
-use Rattle.definitions.specs.Basics.{option, unless, isSome, isAt, put, iterate}
-use Rattle.definitions.specs.Limits.{machines, nodes, commands, sheetLength, absent}
-use Rattle.definitions.specs.Tree.{Tree, Sound, parent, level, over}
+use Rattle.definitions.specs.Basics.{option, unless, isSome, put, iterate}
+use Rattle.definitions.specs.Limits.{machines, commands, sheetLength, absent}
+use Rattle.definitions.specs.Tree.{Tree, Sound, usedMachine, parent, level, over}
 use Rattle.definitions.specs.Book.{word, number, treeOf, WellFormed}
 use Rattle.definitions.specs.Sheet.{Rows, costOf, machineRowWord, rowsOf}
 use Rattle.definitions.specs.Truth.{BlankMachine, BlankNode, BlankRule, TrueSheet}
 use Rattle.definitions.specs.Edit.{withStale}
-use Rattle.definitions.proofs.Options.{none-some, bind-some, some-same, true-false, decided, equal-or-not, put-other, isAt-some}
+use Rattle.definitions.proofs.Options.{none-some, bind-some, some-same, true-false, decided, equal-or-not}
 use Rattle.definitions.proofs.Path.{Deep, at-root, under, deep, deep-unique, level-on}
-use Rattle.definitions.proofs.Words.{same-rows, present-word, no-holder}
+use Rattle.definitions.proofs.Words.{same-rows, present-word, no-holder, owner-range}
 use Rattle.definitions.proofs.Commands.{over-top, over-up, over-climbs}
 use Rattle.book.proofs.Places.{grid-past}
-use Rattle.rows.proofs.Edits.{over-own, over-parent}
-use Rattle.sheet.specs.Fields.{Marks, Mark}
+use Rattle.rows.proofs.Edits.{over-own}
+use Rattle.sheet.specs.Fields.{Mark, Leaves, withMark, withBlankMachine}
+use Rattle.sheet.proofs.Stores.{leaves-then}
 use Rattle.stepping.specs.Meaning.{Used}
-use Rattle.stepping.proofs.Laws.{used-range, owner-told}
-use Rattle.marking.specs.Stale.{ownedBy, withStaleMachine, LeavesStale, LeavesStaleOver}
+use Rattle.stepping.proofs.Laws.{owner-told}
+use Rattle.marking.specs.Chosen.{chosen}
+use Rattle.marking.specs.Stale.{withMarked, withBlankNodes, ownedBy, freshOver, LeavesBlank, MarkedOver, LeavesStaleOver}
+use Rattle.marking.proofs.Chosen.{zeros, chosen-more}
+use Rattle.marking.proofs.Blanks.{untouched, leaves-same}
 
 -- ---- rows where nothing is left to mark
 
@@ -49,102 +53,83 @@ module _ (ws : List ℕ) (m x : ℕ) (blank : BlankMachine (rowsOf ws) m) where
         | no past ↦ grid-past machines commands m x (number (machineRowWord ws m (17 + x))) (omega arith)
       ]
 
--- what is blank where the test holds stays so
-stays : (b : Bool) {o : Option ℕ} → (b ≡ true → o ≡ none) → unless b o ≡ o
-stays true blank = sym (blank refl)
-stays false blank = refl
+-- the same is left by two tests where the one passes only what the other does, and what the other alone passes is blank
+same-left : (b c : Bool) (v : Option ℕ) → (b ≡ true → c ≡ true) → (c ≡ true → b ≡ false → v ≡ none) → unless b v ≡ unless c v
+same-left true true v more blank = refl
+same-left true false v more blank = absurd (true-false (more refl) refl)
+same-left false true v more blank = blank refl refl
+same-left false false v more blank = refl
 
 -- a machine that is not in use or touched, by its start node
 not-used-or : (o : Option ℕ) {b : Bool} → (not (isSome o) || b) ≡ true → (o ≡ none) ⊎ (b ≡ true)
 not-used-or none e = inl refl
 not-used-or (some f) e = inr e
 
+-- Where every touched machine is fresh or stale already, and the fresh ones are in use and touched, it is enough to mark the fresh ones
+-- and to blank their rows and their nodes' rows.
+module _ (t : Tree) (touched fresh : ℕ → Bool) (ws : List ℕ) (blanks : BlankRule t (rowsOf ws))
+    (rest : (p : ℕ) → touched p ≡ true → fresh p ≡ false → rowsOf ws .stale p ≡ true)
+    (some-touched : (p : ℕ) → fresh p ≡ true → (touched p ≡ true) × (usedMachine t p ≡ true)) where
+  mark : (m : ℕ) (o : Option ℕ) → t .start m ≡ o → (b c : Bool) → fresh m ≡ b → touched m ≡ c
+      → (b || rowsOf ws .stale m) ≡ (isSome o && (c || rowsOf ws .stale m))
+  mark m none e true c on over = absurd (true-false (some-touched m on .1) (ap isSome e))
+  mark m none e false c off over = blanks .unused-stale m e
+  mark m (some f) e true true on over = refl
+  mark m (some f) e true false on over = absurd (true-false (some-touched m on .0) over)
+  mark m (some f) e false true off over = rest m over off
+  mark m (some f) e false false off over = refl
+
+  machine : (m : ℕ) → (not (isSome (t .start m)) || touched m) ≡ true → fresh m ≡ false → BlankMachine (rowsOf ws) m
+  machine m e off =
+      ⊎-elim (blanks .unused-machine m) (λ on. blanks .stale-machine m (rest m on off)) (not-used-or (t .start m) e)
+
+  more : (m : ℕ) → fresh m ≡ true → (not (isSome (t .start m)) || touched m) ≡ true
+  more m on = rw (some-touched m on .0) (or-true (not (isSome (t .start m))))
+
+  node : (n : ℕ) (o : Option ℕ) → t .owner n ≡ o → option true touched o ≡ true → option false fresh o ≡ false → BlankNode (rowsOf ws) n
+  node n none own e off = blanks .unused-node n own
+  node n (some m) own e off = blanks .stale-node n m own (rest m e off)
+
+  more-nodes : (o : Option ℕ) → option false fresh o ≡ true → option true touched o ≡ true
+  more-nodes none on = refl
+  more-nodes (some m) on = some-touched m on .0
+
+  pub marks-fresh : withBlankNodes (withMarked (rowsOf ws) fresh) (ownedBy t fresh) ≡ withStale t touched (rowsOf ws)
+  unfolding withStale
+  marks-fresh =
+      same-rows _ _ (λ m. mark m (t .start m) refl (fresh m) (touched m) refl refl)
+      (λ m x. same-left _ _ (rowsOf ws .exit m x) (more m) (λ e off. blank-exit ws m x (machine m e off)))
+      (λ m x. same-left _ _ (rowsOf ws .last m x) (more m) (λ e off. blank-last ws m x (machine m e off)))
+      (λ n. same-left _ _ (rowsOf ws .cost n) (more-nodes (t .owner n)) (λ e off. node n (t .owner n) refl e off .cost))
+      (λ n. same-left _ _ (rowsOf ws .before n) (more-nodes (t .owner n)) (λ e off. node n (t .owner n) refl e off .before))
+      (λ n. same-left _ _ (rowsOf ws .by n) (more-nodes (t .owner n)) (λ e off. node n (t .owner n) refl e off .by))
+
 -- where every touched machine is stale already, the rows stay
 pub idle : (t : Tree) (touched : ℕ → Bool) (ws : List ℕ) → BlankRule t (rowsOf ws)
     → ((p : ℕ) → touched p ≡ true → rowsOf ws .stale p ≡ true) → withStale t touched (rowsOf ws) ≡ rowsOf ws
-unfolding withStale
 idle t touched ws blanks marked =
-    same-rows _ _ (λ m. mark m (t .start m) refl (touched m) refl) (λ m x. stays _ (λ e. blank-exit ws m x (machine m e)))
-    (λ m x. stays _ (λ e. blank-last ws m x (machine m e))) (λ n. stays _ (λ e. node n (t .owner n) refl e .cost))
-    (λ n. stays _ (λ e. node n (t .owner n) refl e .before)) (λ n. stays _ (λ e. node n (t .owner n) refl e .by))
+    sym (marks-fresh t touched (λ p. false) ws blanks (λ p on off. marked p on) (λ p on. absurd (true-false on refl)))
+    ∙ ap (withBlankNodes (rowsOf ws)) (fun-ext λ n. nobody (t .owner n))
   where
-    mark : (m : ℕ) (o : Option ℕ) → t .start m ≡ o → (b : Bool) → touched m ≡ b → (isSome o && (b || rowsOf ws .stale m)) ≡ rowsOf ws .stale m
-    mark m none e b on = sym (blanks .unused-stale m e)
-    mark m (some f) e true on = sym (marked m on)
-    mark m (some f) e false on = refl
-
-    machine : (m : ℕ) → (not (isSome (t .start m)) || touched m) ≡ true → BlankMachine (rowsOf ws) m
-    machine m e = ⊎-elim (blanks .unused-machine m) (λ on. blanks .stale-machine m (marked m on)) (not-used-or (t .start m) e)
-
-    node : (n : ℕ) (o : Option ℕ) → t .owner n ≡ o → option true touched o ≡ true → BlankNode (rowsOf ws) n
-    node n none own e = blanks .unused-node n own
-    node n (some m) own e = blanks .stale-node n m own (marked m e)
+    nobody : (o : Option ℕ) → option false (λ p. false) o ≡ false
+    nobody none = refl
+    nobody (some m) = refl
 
 -- ---- one machine more
 
--- nothing is left of nothing
-unless-none : (b : Bool) → unless {A = ℕ} b none ≡ none
-unless-none true = refl
-unless-none false = refl
-
--- a machine that is marked first is one of those that are marked
-module _ (t : Tree) (a : ℕ → Bool) (r : Rows) (m : ℕ) where
-  -- marks
-  one-mark : (p : ℕ) → (a p || put (r .stale) m true p) ≡ (eqb m p || a p || r .stale p)
-  one-mark p =
-      ⊎-elim (λ e. rw (eq-eqb p m e, eq-eqb m p (sym e)) (or-true (a p)))
-      (λ ne. rw (ne-eqb p m ne, ne-eqb m p (λ e. ne (sym e)))) (equal-or-not p m)
-
-  -- machines' rows
-  one-row : (p x : ℕ) (unused : Bool) (f : ℕ → ℕ → Option ℕ)
-      → unless (unused || a p) (put f m (λ y. none) p x) ≡ unless (unused || (eqb m p || a p)) (f p x)
-  one-row p x unused f =
-      ⊎-elim (λ e. rw (eq-eqb p m e, eq-eqb m p (sym e), or-true unused) (unless-none (unused || a p)))
-      (λ ne. rw (ne-eqb p m ne, ne-eqb m p (λ e. ne (sym e)))) (equal-or-not p m)
-
-  -- nodes' rows
-  one-node : (o c : Option ℕ) → unless (option true a o) (unless (isAt o m) c) ≡ unless (option true (λ p. eqb m p || a p) o) c
-  one-node none c = refl
-  one-node (some p) c =
-      ⊎-elim (λ e. rw (eq-eqb p m e, eq-eqb m p (sym e)) (unless-none (a p)))
-      (λ ne. rw (ne-eqb p m ne, ne-eqb m p (λ e. ne (sym e)))) (equal-or-not p m)
-
-  -- all rows
-  pub one-more : withStale t a (withStaleMachine t r m) ≡ withStale t (λ p. eqb m p || a p) r
-  unfolding withStale
-  one-more =
-      same-rows _ _ (λ p. ap (λ b. isSome (t .start p) && b) (one-mark p)) (λ p x. one-row p x (not (isSome (t .start p))) (r .exit))
-      (λ p x. one-row p x (not (isSome (t .start p))) (r .last)) (λ n. one-node (t .owner n) (r .cost n))
-      (λ n. one-node (t .owner n) (r .before n))
-      (λ n. one-node (t .owner n) (r .by n))
-
--- a machine in use that is marked leaves the blank rule
-staled-blanks : (t : Tree) (r : Rows) {m f : ℕ} → t .start m ≡ some f → BlankRule t r → BlankRule t (withStaleMachine t r m)
-staled-blanks t r {m} {f} used blanks =
-    record {
-      unused-stale = λ p off. put-other (r .stale) m true p (λ e. none-some off (ap (t .start) e ∙ used)) ∙ blanks .unused-stale p off;
-      unused-machine = λ p off. machine p (λ ne. blanks .unused-machine p off);
-      unused-node = λ n off. node n (λ away. blanks .unused-node n off);
-      stale-machine = λ p on. machine p (λ ne. blanks .stale-machine p (sym (put-other (r .stale) m true p ne) ∙ on));
-      stale-node = λ n p own on.
-          node n (λ away. blanks .stale-node n p own (sym (put-other (r .stale) m true p (λ e. true-false (isAt-some p m own e) away)) ∙ on));
-    }
+-- a machine that is marked after others is one of those that are marked
+one-more : (r : Rows) (a : ℕ → Bool) (m : ℕ) → withBlankMachine (withMark (withMarked r a) m true) m ≡ withMarked r (λ p. eqb m p || a p)
+one-more r a m =
+    same-rows _ _
+    (λ p.
+    ⊎-elim (λ e. rw (eq-eqb p m e, eq-eqb m p (sym e))) (λ ne. rw (ne-eqb p m ne, ne-eqb m p (λ e. ne (sym e)))) (equal-or-not p m))
+    (λ p x. row p x (r .exit)) (λ p x. row p x (r .last)) (λ n. refl) (λ n. refl) (λ n. refl)
   where
-    machine : (p : ℕ) → ((p ≡ m → ⊥) → BlankMachine r p) → BlankMachine (withStaleMachine t r m) p
-    machine p old =
-        ⊎-elim (λ e. record { exit = λ x range. rw (eq-eqb p m e); last = λ x range. rw (eq-eqb p m e) })
-        (λ ne.
-        record {
-          exit = λ x range. rw (ne-eqb p m ne) (old ne .exit x range);
-          last = λ x range. rw (ne-eqb p m ne) (old ne .last x range);
-        })
+    row : (p x : ℕ) (f : ℕ → ℕ → Option ℕ)
+        → put {A = ℕ → Option ℕ} (λ q y. unless (a q) (f q y)) m (λ y. none) p x ≡ unless (eqb m p || a p) (f p x)
+    row p x f =
+        ⊎-elim (λ e. rw (eq-eqb p m e, eq-eqb m p (sym e))) (λ ne. rw (ne-eqb p m ne, ne-eqb m p (λ e. ne (sym e))))
         (equal-or-not p m)
-
-    node : (n : ℕ) → (ownedBy t m n ≡ false → BlankNode r n) → BlankNode (withStaleMachine t r m) n
-    node n old =
-        ⊎-elim (λ on. record { cost = rw on; before = rw on; by = rw on })
-        (λ off. record { cost = rw off (old off .cost); before = rw off (old off .before); by = rw off (old off .by) })
-        (decided (ownedBy t m n))
 
 -- ---- machines over a node
 
@@ -159,141 +144,226 @@ climbs-deep {t} s (suc j) e (under held own d) =
     let (i, small, way) = climbs-deep s j (rw (held, own) at e) d in
     (i, omega arith, way)
 
+-- a machine over a node is no deeper than the node's machine
+over-deep : {t : Tree} → Sound t → (p : ℕ) {n m k : ℕ} → t .owner n ≡ some m → Deep t m k → over t p n ≡ true → (i : ℕ) × (i ≤ k) × Deep t p i
+over-deep s p own way ov = let (j, climb) = over-climbs s p own ov in climbs-deep s j climb way
+
+-- and is in use
+over-used : {t : Tree} → Sound t → (p : ℕ) {n m : ℕ} → t .owner n ≡ some m → over t p n ≡ true → usedMachine t p ≡ true
+over-used {t} s p {n} {m} own ov =
+    let (k, small, way) = deep s (s .owner-used n m own .1) in
+    let (i, high, way-p) = over-deep s p own way ov in
+    go way-p
+  where
+    go : {q i : ℕ} → Deep t q i → usedMachine t q ≡ true
+    go (at-root top) = rw (top, s .root-used .1)
+    go (under {m = q} {h = h} held own d) = rw (s .held-used q h held .1)
+
 -- a machine is not over the node that holds it
 not-over-holder : {t : Tree} → Sound t → {m h : ℕ} → t .holder m ≡ some h → over t m h ≡ true → ⊥
 not-over-holder {t} s {m} {h} held ov =
     let (p, own) = s .holder-used m h held in
     let (f, used) = s .owner-used h p own in
     let (k, small, way) = deep s used in
-    let (j, climb) = over-climbs s m own ov in
-    let (i, high, way-m) = climbs-deep s j climb way in
+    let (i, high, way-m) = over-deep s m own way ov in
     let same : i ≡ suc k = deep-unique s way-m (under held own way) in
     omega arith
 
 -- ---- the climb
 
--- the climb has come from node n to node k, and a sheet's words from `before` to `after`
-pub record Climbing (t : Tree) (before after : List ℕ) (n k : ℕ) : Type 0 where
-  pub length : length after ≡ sheetLength
-  pub marks : Marks before → Marks after
-  pub used : Used t k
-  -- to mark the machines over k is what is left to do
-  pub rest : withStale t (λ p. over t p k) (rowsOf after) ≡ withStale t (λ p. over t p n) (rowsOf before)
-  pub blanks : BlankRule t (rowsOf after)
-  -- among the machines over k, those above a stale one are stale
-  pub up : (m p : ℕ) → over t m k ≡ true → rowsOf after .stale m ≡ true → parent t m ≡ some p → rowsOf after .stale p ≡ true
+-- The machines over node n are those listed and the rest. No listed one is of the rest, and none was stale.
+pub record Parted (t : Tree) (r : Rows) (n : ℕ) (listed rest : ℕ → Bool) : Type 0 where
+  pub both : (p : ℕ) → over t p n ≡ (listed p || rest p)
+  pub apart : (p : ℕ) → listed p ≡ true → rest p ≡ false
+  pub were-fresh : (p : ℕ) → listed p ≡ true → r .stale p ≡ false
+
+module _ {t : Tree} {r : Rows} {n : ℕ} {listed rest : ℕ → Bool} (parted : Parted t r n listed rest) where
+  -- one machine of the rest more, which was not stale, is listed
+  parted-more : (m : ℕ) (others : ℕ → Bool) → ((p : ℕ) → rest p ≡ (eqb m p || others p)) → others m ≡ false → r .stale m ≡ false
+      → Parted t r n (λ p. eqb m p || listed p) others
+  parted-more m others split off fresh =
+      record {
+        both = λ p. parted .both p ∙ ap (λ b. listed p || b) (split p) ∙ regroup (listed p) (eqb m p) (others p);
+        apart = λ p on. one-of others p on off (λ was. right (eqb m p) (sym (split p) ∙ parted .apart p was));
+        were-fresh = λ p on. one-of (r .stale) p on fresh (parted .were-fresh p);
+      }
+    where
+      regroup : (a b c : Bool) → (a || (b || c)) ≡ ((b || a) || c)
+      regroup true b c = sym (ap (λ d. d || c) (or-true b))
+      regroup false b c = sym (ap (λ d. d || c) (or-false b))
+
+      right : (a : Bool) {b : Bool} → (a || b) ≡ false → b ≡ false
+      right true e = absurd (true-false refl e)
+      right false e = e
+
+      -- what holds of m and of a listed machine
+      one-of : (test : ℕ → Bool) (p : ℕ) → (eqb m p || listed p) ≡ true → test m ≡ false → (listed p ≡ true → test p ≡ false)
+          → test p ≡ false
+      one-of test p on here there =
+          ⊎-elim (λ same. ap test (sym same) ∙ here) (λ other. there (rw (ne-eqb m p other) at on)) (equal-or-not m p)
+
+  -- where the rest was stale already, those listed are the machines over n that were not
+  parted-all : ((p : ℕ) → rest p ≡ true → r .stale p ≡ true) → (p : ℕ) → listed p ≡ freshOver t n r p
+  parted-all stale p =
+      go (listed p) (rest p) (r .stale p) (parted .were-fresh p) (stale p) ∙ ap (λ b. b && not (r .stale p)) (sym (parted .both p))
+    where
+      go : (a b c : Bool) → (a ≡ true → c ≡ false) → (b ≡ true → c ≡ true) → a ≡ ((a || b) && not c)
+      go true b true fresh on = absurd (true-false refl (fresh refl))
+      go true b false fresh on = refl
+      go false true true fresh on = refl
+      go false true false fresh on = absurd (true-false (on refl) refl)
+      go false false c fresh on = refl
+
+-- The climb has come from node n to a node: what it has marked is in the list, and the machines over that node are the rest.
+pub record Climbing (t : Tree) (before after : List ℕ) (n : ℕ) (list : List ℕ) (rest : ℕ → Bool) : Type 0 where
+  pub size : length list ≡ machines
+  pub left : Leaves before after (withMarked (rowsOf before) (chosen list))
+  pub parted : Parted t (rowsOf before) n (chosen list) rest
 
 -- at first
-pub climb-starts : (t : Tree) (ws : List ℕ) (n : ℕ) → TrueSheet t ws → Used t n → Climbing t ws ws n n
-climb-starts t ws n sheet used =
+pub climb-starts : (t : Tree) (ws : List ℕ) (n : ℕ) → length ws ≡ sheetLength
+    → Climbing t ws ws n (replicate machines 0) (λ p. over t p n)
+climb-starts t ws n l =
     record {
-      length = sheet .length;
-      marks = λ marks. marks;
-      used = used;
-      rest = refl;
-      blanks = sheet .rows .blanks;
-      up = λ m p ov on above. sheet .rows .stale-above m p on above;
+      size = length-replicate {A = ℕ} machines 0;
+      left = leaves-same (untouched ws l) (ap (withMarked (rowsOf ws)) (sym (zeros machines)));
+      parted =
+          record {
+            both = λ p. ap (λ (g : ℕ → Bool). g p || over t p n) (sym (zeros machines));
+            apart = λ p on. absurd (nobody p on);
+            were-fresh = λ p on. absurd (nobody p on);
+          };
     }
+  where
+    nobody : (p : ℕ) → chosen (replicate machines 0) p ≡ true → ⊥
+    nobody p on = true-false on (ap (λ (g : ℕ → Bool). g p) (zeros machines))
 
-module _ {t : Tree} (s : Sound t) {before after : List ℕ} {n k m : ℕ} (c : Climbing t before after n k) (own : t .owner k ≡ some m) where
-  -- above a stale machine over k all are stale
-  stale-up : (j q : ℕ) {p : ℕ} → over t q k ≡ true → rowsOf after .stale q ≡ true
-      → iterate (parent t) j q ≡ some p → rowsOf after .stale p ≡ true
-  unfolding iterate
-  stale-up zero q ov on e = rw (some-same refl e) at on
-  stale-up (suc j) q ov on e =
-      let (p, above, rest) = bind-some (parent t q) (iterate (parent t) j) e in
-      stale-up j p (over-parent s own q p ov above) (c .up q p ov on above) rest
+-- above a stale machine of a true sheet all are stale
+stale-up : {t : Tree} {ws : List ℕ} → TrueSheet t ws → (j q : ℕ) {p : ℕ} → rowsOf ws .stale q ≡ true
+    → iterate (parent t) j q ≡ some p → rowsOf ws .stale p ≡ true
+unfolding iterate
+stale-up sheet zero q on e = rw (some-same refl e) at on
+stale-up {t} sheet (suc j) q on e =
+    let (p, above, rest) = bind-some (parent t q) (iterate (parent t) j) e in
+    stale-up sheet j p (sheet .rows .stale-above q p on above) rest
 
-  -- the machine in hand is stale already: nothing is left to mark
-  pub climb-stops : rowsOf after .stale m ≡ true → LeavesStaleOver t n before after
+-- so where the machine of a node is stale, all over the node are
+all-stale : {t : Tree} → Sound t → {ws : List ℕ} → TrueSheet t ws → {k m : ℕ} → t .owner k ≡ some m → rowsOf ws .stale m ≡ true
+    → (p : ℕ) → over t p k ≡ true → rowsOf ws .stale p ≡ true
+all-stale s sheet {m = m} own on p ov = let (j, climb) = over-climbs s p own ov in stale-up sheet j m on climb
+
+module _ {t : Tree} (s : Sound t) {before after : List ℕ} (sheet : TrueSheet t before) {n k m : ℕ} (own : t .owner k ≡ some m)
+    {list : List ℕ} (c : Climbing t before after n list (λ p. over t p k)) where
+  -- the machine in hand is not listed, so that its mark is what it was
+  mark-kept : rowsOf after .stale m ≡ rowsOf before .stale m
+  mark-kept =
+      ap (λ (r : Rows). r .stale m) (c .left .rows)
+      ∙ ap (λ b. b || rowsOf before .stale m)
+      (⊎-elim (λ on. absurd (true-false (over-own s own) (c .parted .apart m on))) (λ off. off) (decided (chosen list m)))
+
+  -- it is stale already: nothing is left to mark
+  pub climb-stops : rowsOf after .stale m ≡ true → MarkedOver t n before after list
   climb-stops on =
-      record {
-        length = c .length;
-        marks = c .marks;
-        rows =
-            sym
-            (idle t (λ p. over t p k) after (c .blanks)
-            (λ p ov. let (j, climb) = over-climbs s p own ov in stale-up j m (over-own s own) on climb))
-            ∙ c .rest;
-      }
+      record { listed = parted-all (c .parted) (all-stale s sheet own (sym mark-kept ∙ on)); left = c .left }
 
-  module _ {last : List ℕ} (left : LeavesStale t m after last) where
-    -- the machine in hand is marked: the blank rule holds still
-    marked-blanks : BlankRule t (rowsOf last)
-    marked-blanks = rw (left .rows) (staled-blanks t (rowsOf after) (s .owner-used k m own .1) (c .blanks))
+  module _ (fresh : rowsOf after .stale m ≡ false) {last : List ℕ}
+      (marked : Leaves after last (withBlankMachine (withMark (rowsOf after) m true) m)) where
+    -- it is marked, and others are the rest
+    climb-marks : (others : ℕ → Bool) → ((p : ℕ) → over t p k ≡ (eqb m p || others p)) → others m ≡ false
+        → Climbing t before last n (set list m 1) others
+    climb-marks others split off =
+        let under : m < length list = omega (arith, c .size, owner-range t s k m own .1) in
+        let more : (λ p. eqb m p || chosen list p) ≡ chosen (set list m 1) = fun-ext λ p. sym (chosen-more list m p under) in
+        record {
+          size = length-set list m 1 ∙ c .size;
+          left =
+              leaves-same (leaves-then (λ r. withBlankMachine (withMark r m true) m) (c .left) marked)
+              (one-more (rowsOf before) (chosen list) m ∙ ap (withMarked (rowsOf before)) more);
+          parted =
+              subst (λ (g : ℕ → Bool). Parted t (rowsOf before) n g others) more
+              (parted-more (c .parted) m others split off (sym mark-kept ∙ fresh));
+        }
 
     -- it was the root: all are marked
-    pub climb-ends : t .holder m ≡ none → LeavesStaleOver t n before last
+    pub climb-ends : t .holder m ≡ none → MarkedOver t n before last (set list m 1)
     climb-ends free =
-        record {
-          length = left .length;
-          marks = λ marks. left .marks (c .marks marks);
-          rows =
-              sym (idle t (λ p. false) last marked-blanks (λ p e. absurd (true-false e refl)))
-              ∙ ap (withStale t (λ p. false)) (left .rows)
-              ∙ one-more t (λ p. false) (rowsOf after) m
-              ∙ ap (λ (a : ℕ → Bool). withStale t a (rowsOf after)) (fun-ext λ p. or-false (eqb m p) ∙ sym (over-top t p own free))
-              ∙ c .rest;
-        }
+        let all = climb-marks (λ p. false) (λ p. over-top t p own free ∙ sym (or-false (eqb m p))) refl in
+        record { listed = parted-all (all .parted) (λ p on. absurd (true-false on refl)); left = all .left }
 
     -- node h holds it: on from there
-    pub climb-goes-on : {h : ℕ} → t .holder m ≡ some h → Climbing t before last n h
+    pub climb-goes-on : {h : ℕ} → t .holder m ≡ some h → Climbing t before last n (set list m 1) (λ p. over t p h)
     climb-goes-on {h} held =
-        record {
-          length = left .length;
-          marks = λ marks. left .marks (c .marks marks);
-          used = s .holder-used m h held;
-          rest =
-              ap (withStale t (λ p. over t p h)) (left .rows)
-              ∙ one-more t (λ p. over t p h) (rowsOf after) m
-              ∙ ap (λ (a : ℕ → Bool). withStale t a (rowsOf after)) (fun-ext λ p. sym (over-up s p own held))
-              ∙ c .rest;
-          blanks = marked-blanks;
-          up = λ q p ov on above.
-              let other : q ≡ m → ⊥ = λ e. not-over-holder s held (rw e at ov) in
-              let over-k : over t q k ≡ true = over-up s q own held ∙ rw ov (or-true (eqb m q)) in
-              let old : rowsOf after .stale q ≡ true = sym (put-other (rowsOf after .stale) m true q other) ∙ (rw (left .rows) at on) in
-              rw (left .rows) (still p (c .up q p over-k old above));
-        }
-      where
-        still : (p : ℕ) → rowsOf after .stale p ≡ true → put (rowsOf after .stale) m true p ≡ true
-        still p on = ⊎-elim (λ e. rw (eq-eqb p m e)) (λ ne. rw (ne-eqb p m ne) on) (equal-or-not p m)
+        climb-marks (λ p. over t p h) (λ p. over-up s p own held)
+        (⊎-elim (λ on. absurd (not-over-holder s held on)) (λ off. off) (decided (over t m h)))
 
 -- ---- the same, from what the words say
 
-module _ (book : List ℕ) (w : WellFormed book) {before after : List ℕ} {n k : ℕ} (c : Climbing (treeOf book) before after n k) where
-  -- the node in hand is in range
-  pub hand-range : k < nodes
-  hand-range = used-range book w k (c .used)
+module _ (book : List ℕ) (w : WellFormed book) {before : List ℕ} (sheet : TrueSheet (treeOf book) before) (k : ℕ)
+    (used : Used (treeOf book) k) {o : ℕ} (owner : o ≡ word (treeOf book .owner k)) where
+  -- the machine of the node in hand is in range
+  pub machine-range : o < machines
+  machine-range = owner-told book w k used owner .1
 
-  module _ {o : ℕ} (owner : o ≡ word (treeOf book .owner k)) where
-    -- and so is its machine
-    pub machine-range : o < machines
-    machine-range = owner-told book w k (c .used) owner .1
+  -- which owns it
+  own : treeOf book .owner k ≡ some o
+  own = owner-told book w k used owner .0
 
-    -- which owns it
-    own : treeOf book .owner k ≡ some o
-    own = owner-told book w k (c .used) owner .0
+  -- its mark is 1 at first: nothing is to be marked
+  pub idle-told : {b : ℕ} → Mark before o b → b ≡ 1 → LeavesStaleOver (treeOf book) k before before
+  idle-told {b} word on =
+      leaves-same (untouched before (sheet .length))
+      (sym
+      (idle (treeOf book) (λ p. over (treeOf book) p k) before (sheet .rows .blanks)
+      (all-stale (w .sound) sheet own (word .says ∙ eq-eqb b 1 on))))
 
+  -- the node that holds that machine is in use and a level higher
+  module _ {h : ℕ} (holder : h ≡ word (treeOf book .holder o)) (present : h ≡ absent → ⊥) where
+    held : treeOf book .holder o ≡ some h
+    held = present-word (treeOf book .holder o) holder present
+
+    pub holder-used : Used (treeOf book) h
+    holder-used = w .sound .holder-used o h held
+
+    pub higher-told : level (treeOf book) h < level (treeOf book) k
+    higher-told = omega (arith, level-on (w .sound) own held)
+
+  module _ {after : List ℕ} {n : ℕ} {list : List ℕ} (c : Climbing (treeOf book) before after n list (λ p. over (treeOf book) p k)) {b : ℕ}
+      (mark : Mark after o b) where
     -- its mark is 1
-    pub stops-told : {b : ℕ} → Mark after o b → b ≡ 1
-        → LeavesStaleOver (treeOf book) n before after
-    stops-told {b} mark on = climb-stops (w .sound) c own (mark .says ∙ eq-eqb b 1 on)
+    pub stops-told : b ≡ 1 → MarkedOver (treeOf book) n before after list
+    stops-told on = climb-stops (w .sound) sheet own c (mark .says ∙ eq-eqb b 1 on)
 
-    module _ {last : List ℕ} (left : LeavesStale (treeOf book) o after last) {h : ℕ}
+    module _ (off : b ≡ 1 → ⊥) {last : List ℕ} (marked : Leaves after last (withBlankMachine (withMark (rowsOf after) o true) o)) {h : ℕ}
         (holder : h ≡ word (treeOf book .holder o)) where
       -- no node holds it
-      pub ends-told : h ≡ absent → LeavesStaleOver (treeOf book) n before last
-      ends-told free = climb-ends (w .sound) c own left (no-holder (treeOf book) (w .sound) o holder free)
+      pub ends-told : h ≡ absent → MarkedOver (treeOf book) n before last (set list o 1)
+      ends-told free =
+          climb-ends (w .sound) sheet own c (mark .says ∙ ne-eqb b 1 off) marked (no-holder (treeOf book) (w .sound) o holder free)
 
       -- node h holds it: on from there
-      held : (h ≡ absent → ⊥) → treeOf book .holder o ≡ some h
-      held present = present-word (treeOf book .holder o) holder present
+      pub goes-on-told : (h ≡ absent → ⊥) → Climbing (treeOf book) before last n (set list o 1) (λ p. over (treeOf book) p h)
+      goes-on-told present = climb-goes-on (w .sound) sheet own c (mark .says ∙ ne-eqb b 1 off) marked (held holder present)
 
-      pub goes-on-told : (h ≡ absent → ⊥) → Climbing (treeOf book) before last n h
-      goes-on-told present = climb-goes-on (w .sound) c own left (held present)
+-- ---- the whole
 
-      -- a level higher
-      pub higher-told : (h ≡ absent → ⊥) → level (treeOf book) h < level (treeOf book) k
-      higher-told present = omega (arith, level-on (w .sound) own (held present))
+-- a machine is one of those that are over a node and not stale
+is-over : (a b : Bool) → (a && not b) ≡ true → a ≡ true
+is-over true b e = refl
+is-over false b e = absurd (true-false e refl)
+
+is-stale : (a b : Bool) → a ≡ true → (a && not b) ≡ false → b ≡ true
+is-stale true true on e = refl
+is-stale true false on e = absurd (true-false refl e)
+is-stale false b on e = absurd (true-false on refl)
+
+-- the climb, and then the nodes of the machines that it marked
+pub touched-told : (book : List ℕ) → WellFormed book → (n : ℕ) → Used (treeOf book) n → (list : List ℕ) {before after last : List ℕ}
+    → TrueSheet (treeOf book) before → MarkedOver (treeOf book) n before after list
+    → LeavesBlank after last (ownedBy (treeOf book) (chosen list)) → LeavesStaleOver (treeOf book) n before last
+touched-told book w n used list {before} sheet marked blanked =
+    leaves-same (leaves-then (λ r. withBlankNodes r (ownedBy (treeOf book) (chosen list))) (marked .left) blanked)
+    (marks-fresh (treeOf book) (λ p. over (treeOf book) p n) (chosen list) before (sheet .rows .blanks)
+    (λ p ov off. is-stale (over (treeOf book) p n) (rowsOf before .stale p) ov (sym (marked .listed p) ∙ off))
+    (λ p on.
+    let ov : over (treeOf book) p n ≡ true = is-over (over (treeOf book) p n) (rowsOf before .stale p) (sym (marked .listed p) ∙ on) in
+    (ov, over-used (w .sound) p (used .1) ov)))

@@ -1,2 +1,3 @@
+pub mod Chosen
 pub mod Blanks
 pub mod Climb

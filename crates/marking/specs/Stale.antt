@@ -1,14 +1,27 @@
--- Rows with some nodes blank, with one machine marked and blank with its nodes, and with all machines over a node: what a sheet's words
--- are left with.
-use mathlib.Core.Bool.{Bool, true, _&&_}
+-- Rows with some machines marked, with some nodes blank, and with all machines over a node marked and blank: what a sheet's words are
+-- left with.
+use mathlib.Core.Path.{_≡_}
+use mathlib.Core.Bool.{Bool, false, not, _&&_, _||_}
 use mathlib.Core.List.{List}
 use Prim.Native.Nat.{ℕ}
-use lib.Dec.{eqb}
-use Rattle.definitions.specs.Basics.{unless, isAt}
+use Rattle.definitions.specs.Basics.{option, unless}
 use Rattle.definitions.specs.Tree.{Tree, over}
 use Rattle.definitions.specs.Sheet.{Rows, rowsOf}
 use Rattle.definitions.specs.Edit.{withStale}
-use Rattle.sheet.specs.Fields.{Leaves, withMark, withBlankMachine}
+use Rattle.sheet.specs.Fields.{Leaves}
+use Rattle.marking.specs.Chosen.{chosen}
+
+-- the rows where the machines that pass the test are stale and their own rows blank
+abbrev pub withMarked : Rows → (ℕ → Bool) → Rows
+withMarked r test =
+    record {
+      stale = λ m. test m || r .stale m;
+      exit = λ m x. unless (test m) (r .exit m x);
+      last = λ m x. unless (test m) (r .last m x);
+      cost = r .cost;
+      before = r .before;
+      by = r .by;
+    }
 
 -- the rows where the nodes that pass the test are blank
 abbrev pub withBlankNodes : Rows → (ℕ → Bool) → Rows
@@ -22,24 +35,22 @@ withBlankNodes r gone =
       by = λ n. unless (gone n) (r .by n);
     }
 
--- whether node k belongs to machine m; whether it does and is node n
-abbrev pub ownedBy : Tree → ℕ → ℕ → Bool
-ownedBy t m k = isAt (t .owner k) m
+-- whether node k belongs to a machine that passes the test
+abbrev pub ownedBy : Tree → (ℕ → Bool) → ℕ → Bool
+ownedBy t test k = option false test (t .owner k)
 
-abbrev pub ownedAt : Tree → ℕ → ℕ → ℕ → Bool
-ownedAt t m n k = ownedBy t m k && eqb k n
-
--- the rows where machine m is stale, and its row and its nodes' rows are blank
-abbrev pub withStaleMachine : Tree → Rows → ℕ → Rows
-withStaleMachine t r m = withBlankNodes (withBlankMachine (withMark r m true) m) (ownedBy t m)
+-- whether machine p is over node n and not stale yet
+abbrev pub freshOver : Tree → ℕ → Rows → ℕ → Bool
+freshOver t n r p = over t p n && not (r .stale p)
 
 -- a sheet's words are left with the nodes that pass the test blank
 abbrev pub LeavesBlank : List ℕ → List ℕ → (ℕ → Bool) → Type 0
 LeavesBlank before after gone = Leaves before after (withBlankNodes (rowsOf before) gone)
 
--- with machine m marked and blanked
-abbrev pub LeavesStale : Tree → ℕ → List ℕ → List ℕ → Type 0
-LeavesStale t m before after = Leaves before after (withStaleMachine t (rowsOf before) m)
+-- with the machines over node n that were not stale yet marked and their own rows blank, and the list has 1 at these machines
+pub record MarkedOver (t : Tree) (n : ℕ) (before after list : List ℕ) : Type 0 where
+  pub listed : (p : ℕ) → chosen list p ≡ freshOver t n (rowsOf before) p
+  pub left : Leaves before after (withMarked (rowsOf before) (chosen list))
 
 -- with the machine of node n and all above it marked and blanked
 abbrev pub LeavesStaleOver : Tree → ℕ → List ℕ → List ℕ → Type 0

@@ -1,35 +1,27 @@
 -- What remove leaves, from what its parts leave. Assumes nothing.
-use mathlib.Core.Path.{_≡_, refl, _∙_}
+use mathlib.Core.Path.{_≡_, refl}
 use mathlib.Core.Bool.{Bool, true, false, cond, not, _&&_, _||_}
-use mathlib.Core.Option.{Option, none, some}
+use mathlib.Core.Option.{Option}
 use mathlib.Core.List.{List}
 use Prim.Native.Nat.{ℕ}
 use Rattle.definitions.specs.Basics.{option, unless, isSome}
-use Rattle.definitions.specs.Limits.{machines, nodes}
+use Rattle.definitions.specs.Limits.{machines}
 use Rattle.definitions.specs.Tree.{Tree, within, over}
-use Rattle.definitions.specs.Book.{treeOf, WellFormed}
+use Rattle.definitions.specs.Book.{treeOf}
 use Rattle.definitions.specs.Sheet.{Rows, rowsOf}
 use Rattle.definitions.specs.Stream.{Edit}
 use Rattle.definitions.specs.Edit.{heldWithin, without, withStale, edited, touches, editedRows}
-use Rattle.definitions.proofs.Words.{same-rows, holder-range}
+use Rattle.definitions.proofs.Words.{same-rows}
 use Rattle.definitions.proofs.Commands.{TakenRemove, taken-remove}
-use Rattle.book.specs.Fields.{Holds}
-use Rattle.clearing.specs.Gone.{Left, chosen, upTo, NodesGone, MachinesGone, withoutNodes, withoutMachines, withoutMachineRows}
-use Rattle.clearing.proofs.Laws.{left-then, nodes-all, machines-all}
+use Rattle.sheet.proofs.Stores.{leaves-then}
+use Rattle.marking.specs.Chosen.{chosen, upTo}
 use Rattle.marking.specs.Stale.{withBlankNodes, LeavesStaleOver}
 use Rattle.marking.proofs.Blanks.{leaves-same}
+use Rattle.clearing.specs.Gone.{Left, MachinesGone, withoutNodes, withoutMachines, withoutMachineRows}
+use Rattle.clearing.proofs.Laws.{left-then, machines-all}
 use Rattle.editing.specs.Edited.{Ready, Edited}
 use Rattle.editing.proofs.Left.{left-edited}
-use Rattle.removing.specs.Within.{Listed, heldBy, withoutInto}
-
--- a machine that is held within n is held by a listed node
-listed-held : (ws : List ℕ) → WellFormed ws → (n : ℕ) (list : List ℕ) → Listed nodes nodes (within (treeOf ws) n) list
-    → (m : ℕ) → heldBy (treeOf ws) list m ≡ heldWithin (treeOf ws) n m
-listed-held ws w n list listed m = go (treeOf ws .holder m) refl
-  where
-    go : (o : Option ℕ) → treeOf ws .holder m ≡ o → option false (chosen list) o ≡ option false (within (treeOf ws) n) o
-    go none e = refl
-    go (some h) e = listed .at h (holder-range (treeOf ws) (w .sound) m h e .1)
+use Rattle.removing.specs.Within.{Listed, cut, NodesRemoved}
 
 -- rows where the marking was done first, and then what is within n went
 module _ (t : Tree) (touched gone held : ℕ → Bool) (r : Rows) where
@@ -60,25 +52,21 @@ module _ {b s : List ℕ} {n : ℕ} (ready : Ready b s (Edit.remove n)) where
   pub remove-taken : TakenRemove (treeOf b) n
   remove-taken = taken-remove (treeOf b) n (ready .taken)
 
-  module _ {s₁ : List ℕ} (touched : LeavesStaleOver (treeOf b) n s s₁) (gone held : List ℕ)
-      (nodes-listed : Listed nodes nodes (within (treeOf b) n) gone)
-      (machines-listed : Listed machines machines (heldBy (treeOf b) gone) held)
-      {b₁ : List ℕ} (into : Holds b₁ (withoutInto (treeOf b) n)) {b₂ s₂ : List ℕ}
-      (nodes-gone : NodesGone b₁ s₁ b₂ s₂ (upTo (chosen gone) nodes)) {b₃ s₃ : List ℕ}
-      (machines-gone : MachinesGone b₂ s₂ b₃ s₃ (upTo (chosen held) machines)) where
+  module _ {s₁ : List ℕ} (touched : LeavesStaleOver (treeOf b) n s s₁) (gone : List ℕ)
+      (listed : Listed machines (heldWithin (treeOf b) n) gone)
+      {b₂ s₂ : List ℕ} (nodes-removed : NodesRemoved b s₁ b₂ s₂ n) {b₃ s₃ : List ℕ}
+      (machines-gone : MachinesGone b₂ s₂ b₃ s₃ (upTo (chosen gone) machines)) where
     -- what the parts leave, one after the other
-    left : Left s b₃ s₃ (withoutMachines (withoutNodes (withoutInto (treeOf b) n) (within (treeOf b) n)) (heldWithin (treeOf b) n))
+    left : Left s b₃ s₃ (withoutMachines (cut (treeOf b) (within (treeOf b) n) n) (heldWithin (treeOf b) n))
         (withoutMachineRows (withBlankNodes (withStale (treeOf b) (λ p. over (treeOf b) p n) (rowsOf s)) (within (treeOf b) n))
         (heldWithin (treeOf b) n))
     left =
-        let first = nodes-all (chosen gone) (within (treeOf b) n) (nodes-listed .at) b₁ nodes-gone in
-        let second =
-        machines-all (chosen held) (heldWithin (treeOf b) n)
-        (λ m h. machines-listed .at m h ∙ listed-held b (ready .formed) n gone nodes-listed m) b₂ machines-gone in
         left-then (λ t. withoutMachines t (heldWithin (treeOf b) n)) (λ r. withoutMachineRows r (heldWithin (treeOf b) n))
-        (left-then (λ t. withoutNodes t (within (treeOf b) n)) (λ r. withBlankNodes r (within (treeOf b) n))
-        (record { book = into; sheet = touched }) first)
-        second
+        (record {
+          book = nodes-removed .book;
+          sheet = leaves-then (λ r. withBlankNodes r (within (treeOf b) n)) touched (nodes-removed .sheet);
+        })
+        (machines-all (chosen gone) (heldWithin (treeOf b) n) (listed .at) b₂ machines-gone)
 
     -- is what the edit leaves
     pub remove-done : Edited b s (Edit.remove n) b₃ s₃

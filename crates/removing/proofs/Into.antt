@@ -1,4 +1,4 @@
--- Transitions into a node are cleared, one after the other. Assumes nothing.
+-- The transitions of a node into another are cleared, one after the other. Assumes nothing.
 use mathlib.Core.Path.{_≡_, refl, ap, sym, _∙_, fun-ext}
 use mathlib.Core.Logic.{⊎-elim}
 use mathlib.Core.Bool.{Bool, true, false, cond}
@@ -18,7 +18,7 @@ use Rattle.definitions.proofs.Options.{equal-or-not, none-some, some-same}
 use Rattle.book.specs.Fields.{Holds, withTransitions}
 use Rattle.book.proofs.Places.{grid-past}
 use Rattle.book.proofs.Stores.{holds-then}
-use Rattle.removing.specs.Within.{notInto, withoutIntoAt, withoutInto}
+use Rattle.removing.specs.Within.{notInto, withoutIntoAt}
 
 -- ---- a function changed from the front
 
@@ -26,14 +26,14 @@ use Rattle.removing.specs.Within.{notInto, withoutIntoAt, withoutInto}
 abbrev pub grown : {A : Type 0} → (ℕ → A) → (ℕ → A) → ℕ → ℕ → A
 grown f g i k = cond (ltb k i) (g k) (f k)
 
-grown-none : {A : Type 0} (f g : ℕ → A) → f ≡ grown f g 0
+pub grown-none : {A : Type 0} (f g : ℕ → A) → f ≡ grown f g 0
 grown-none f g = fun-ext λ k. sym (rw (le-ltb k 0 (omega arith)))
 
 -- at i it is f still
-grown-at : {A : Type 0} (f g : ℕ → A) (i : ℕ) → grown f g i i ≡ f i
+pub grown-at : {A : Type 0} (f g : ℕ → A) (i : ℕ) → grown f g i i ≡ f i
 grown-at f g i = rw (le-ltb i i (omega arith))
 
-grown-more : {A : Type 0} (f g : ℕ → A) (i : ℕ) → put (grown f g i) i (g i) ≡ grown f g (i + 1)
+pub grown-more : {A : Type 0} (f g : ℕ → A) (i : ℕ) → put (grown f g i) i (g i) ≡ grown f g (i + 1)
 grown-more {A} f g i =
     fun-ext λ k.
     ⊎-elim (λ e. rw (eq-eqb k i e, lt-ltb k (i + 1) (omega arith)) (ap g (sym e)))
@@ -45,7 +45,7 @@ grown-more {A} f g i =
     same k ne false e = sym (le-ltb k (i + 1) (omega (arith, ltb-false k i e)))
 
 -- where they are the same from i on, it is g
-grown-all : {A : Type 0} (f g : ℕ → A) (i : ℕ) → ((k : ℕ) → i ≤ k → f k ≡ g k) → grown f g i ≡ g
+pub grown-all : {A : Type 0} (f g : ℕ → A) (i : ℕ) → ((k : ℕ) → i ≤ k → f k ≡ g k) → grown f g i ≡ g
 grown-all {A} f g i past = fun-ext λ k. go k (ltb k i) refl
   where
     go : (k : ℕ) (b : Bool) → ltb k i ≡ b → cond b (g k) (f k) ≡ g k
@@ -53,7 +53,7 @@ grown-all {A} f g i past = fun-ext λ k. go k (ltb k i) refl
     go k false e = past k (ltb-false k i e)
 
 -- a function put to its own value, and put twice
-put-own : {A : Type 0} (f : ℕ → A) (i : ℕ) → put f i (f i) ≡ f
+pub put-own : {A : Type 0} (f : ℕ → A) (i : ℕ) → put f i (f i) ≡ f
 put-own f i = fun-ext λ k. ⊎-elim (λ e. rw (eq-eqb k i e) (ap f (sym e))) (λ ne. rw (ne-eqb k i ne)) (equal-or-not k i)
 
 put-twice : {A : Type 0} (f : ℕ → A) (i : ℕ) (v w : A) → put (put f i v) i w ≡ put f i w
@@ -111,14 +111,10 @@ module _ (ws : List ℕ) (k x n : ℕ) (hn : n < nodes) {w : ℕ} (told : w ≡ 
         tree = held .tree ∙ ap (withTransition (treeOf ws) k x) (sym (into-split (treeOf ws .transition k x) refl told .1 hit));
       }
 
--- a book has no transition past its last command, and none past its last node
+-- a book has no transition past its last command
 past-commands : (ws : List ℕ) (k x : ℕ) → commands ≤ x → treeOf ws .transition k x ≡ none
 unfolding treeOf
 past-commands ws k x past = grid-past nodes commands k x (transitionOf (nodeWord ws k (2 + x))) past
-
-past-nodes : (ws : List ℕ) (k x : ℕ) → nodes ≤ k → treeOf ws .transition k x ≡ none
-unfolding treeOf under
-past-nodes ws k x past = rw (le-ltb k nodes past)
 
 -- ---- the transitions of one node
 
@@ -169,44 +165,4 @@ module _ (ws : List ℕ) (n k : ℕ) where
             ∙ ap (λ row. withTransitions (treeOf ws) (put (treeOf ws .transition) k row))
             (grown-all (treeOf ws .transition k) (λ x. notInto n (treeOf ws .transition k x)) i
             (λ x past. let free = past-commands ws k x (omega arith) in free ∙ sym (ap (notInto n) free)));
-      }
-
--- ---- the nodes
-
--- the transitions of the nodes below i are cleared
-abbrev pub intoTo : List ℕ → ℕ → ℕ → Tree
-intoTo ws n i = withTransitions (treeOf ws) (grown (treeOf ws .transition) (λ k x. notInto n (treeOf ws .transition k x)) i)
-
-module _ (ws : List ℕ) (n : ℕ) where
-  pub into-none : length ws ≡ bookLength → Holds ws (intoTo ws n 0)
-  into-none l =
-      record {
-        length = l;
-        tree = ap (withTransitions (treeOf ws)) (grown-none (treeOf ws .transition) (λ k x. notInto n (treeOf ws .transition k x)));
-      }
-
-  pub into-more : (i : ℕ) {now after : List ℕ} → Holds now (intoTo ws n i) → Holds after (withoutIntoAt (treeOf now) n i)
-      → Holds after (intoTo ws n (i + 1))
-  into-more i first second =
-      let grid : ℕ → ℕ → Option Transition = treeOf ws .transition in
-      let goal : ℕ → ℕ → Option Transition = λ k x. notInto n (grid k x) in
-      let then = holds-then (λ u. withoutIntoAt u n i) first second in
-      record {
-        length = then .length;
-        tree =
-            then .tree
-            ∙ ap (withTransitions (treeOf ws))
-            (ap (λ (row : ℕ → Option Transition). put (grown grid goal i) i (λ x. notInto n (row x))) (grown-at grid goal i)
-            ∙ grown-more grid goal i);
-      }
-
-  pub into-all : (i : ℕ) {now : List ℕ} → i ≡ nodes → Holds now (intoTo ws n i) → Holds now (withoutInto (treeOf ws) n)
-  into-all i e held =
-      record {
-        length = held .length;
-        tree =
-            held .tree
-            ∙ ap (withTransitions (treeOf ws))
-            (grown-all (treeOf ws .transition) (λ k x. notInto n (treeOf ws .transition k x)) i
-            (λ k past. fun-ext λ x. let free = past-nodes ws k x (omega arith) in free ∙ sym (ap (notInto n) free)));
       }

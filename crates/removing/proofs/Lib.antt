@@ -1,3 +1,4 @@
 pub mod Lists
 pub mod Into
+pub mod Pass
 pub mod Done

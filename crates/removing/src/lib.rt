@@ -1,16 +1,20 @@
-// Remove (document 01, "Loading a stream"): a node, all below it and the transitions into it.
+// Remove (document 01, "Loading a stream"): a node, all below it and the transitions into it. The machines that go are found first, by a
+// climb from each machine; then every node is looked at once.
 ghost use mathlib.Core.Path.{_≡_};
 ghost use Prim.Native.Nat.{_<_};
 ghost use lib.Dec.{eqb};
 ghost use lib.ListN.{length};
-ghost use Rattle.definitions.specs.Limits.{machines, nodes, commands, bookLength};
+ghost use Rattle.definitions.specs.Limits.{machines, nodes, commands, bookLength, sheetLength};
 ghost use Rattle.definitions.specs.Tree.{within};
 ghost use Rattle.definitions.specs.Book.{treeOf, WellFormed};
 ghost use Rattle.definitions.specs.Stream.{Edit};
-ghost use Rattle.definitions.specs.Edit.{withTransition};
+ghost use Rattle.definitions.specs.Edit.{heldWithin, withTransition};
 ghost use Rattle.book.specs.Fields.{Holds};
+ghost use Rattle.stepping.specs.Meaning.{Used};
+ghost use Rattle.marking.specs.Chosen.{chosen};
+ghost use Rattle.clearing.specs.Gone.{Sized};
 ghost use Rattle.editing.specs.Edited.{Ready, Edited};
-ghost use Rattle.removing.specs.Within.{Listed, heldBy, notInto, withoutIntoAt, withoutInto};
+ghost use Rattle.removing.specs.Within.{Listed, notInto, withoutIntoAt, goesWith, OwnerInRange, Linked, RemovedAt, NodesRemoved};
 
 // 1 where node d is node n or below it, else 0.
 fn within(book: &[u32], n: u32, d: u32) -> u32
@@ -34,41 +38,27 @@ fn within(book: &[u32], n: u32, d: u32) -> u32
     }
 }
 
-// A list with 1 at node n and each node below it.
-fn nodes_within(book: &[u32], n: u32) -> [u32; 256]
-    requires { ⌜ WellFormed (now book) ⌝ }
-    ensures { λ r. ⌜ Listed nodes nodes (within (treeOf (now (book .entry))) n) r ⌝ }
-{
-    let mut list = [0u32; 256];
-    let mut d = 0u32;
-    while d < book::NODES {
-        list[d as usize] = within(book, n, d);
-        d += 1;
-    }
-    list
-}
-
-// What the list has at the node that holds machine m; 0 where none does.
-fn held_within(book: &[u32], list: &[u32; 256], m: u32) -> u32
+// 1 where node n or a node below it holds machine m, else 0.
+fn held_within(book: &[u32], n: u32, m: u32) -> u32
     requires { ⌜ WellFormed (now book) × (m < machines) ⌝ }
-    ensures { λ r. ⌜ eqb r 1 ≡ heldBy (treeOf (now (book .entry))) (now (list .entry)) m ⌝ }
+    ensures { λ r. ⌜ eqb r 1 ≡ heldWithin (treeOf (now (book .entry))) n m ⌝ }
 {
     let h = book::holder(book, m);
     if h == book::ABSENT {
         return 0;
     }
-    list[h as usize]
+    within(book, n, h)
 }
 
-// A list with 1 at each machine that a node of the list holds.
-fn machines_within(book: &[u32], gone: &[u32; 256]) -> [u32; 64]
+// A list with 1 at each machine that node n or a node below it holds.
+fn machines_within(book: &[u32], n: u32) -> [u32; 64]
     requires { ⌜ WellFormed (now book) ⌝ }
-    ensures { λ r. ⌜ Listed machines machines (heldBy (treeOf (now (book .entry))) (now (gone .entry))) r ⌝ }
+    ensures { λ r. ⌜ Listed machines (heldWithin (treeOf (now (book .entry))) n) r ⌝ }
 {
     let mut list = [0u32; 64];
     let mut m = 0u32;
     while m < book::MACHINES {
-        list[m as usize] = held_within(book, gone, m);
+        list[m as usize] = held_within(book, n, m);
         m += 1;
     }
     list
@@ -98,14 +88,47 @@ fn clear_into_from(book: &mut [u32], k: u32, n: u32)
     }
 }
 
-// Clears every transition whose target is n.
-fn clear_into(book: &mut [u32], n: u32)
-    requires { ⌜ (length (now book) ≡ bookLength) × (n < nodes) ⌝ }
-    ensures { λ r. ⌜ Holds (now (book .exit)) (withoutInto (treeOf (now (book .entry))) n) ⌝ }
+// 1 where node k is node n or the list has 1 at its machine, else another number.
+fn goes_with(book: &[u32], gone: &[u32; 64], n: u32, k: u32) -> u32
+    requires { ⌜ (length (now book) ≡ bookLength) × (k < nodes) × OwnerInRange (treeOf (now book)) k ⌝ }
+    ensures { λ r. ⌜ eqb r 1 ≡ goesWith (treeOf (now (book .entry))) (chosen (now (gone .entry))) n k ⌝ }
 {
+    if n == k {
+        return 1;
+    }
+    let m = book::owner(book, k);
+    if m == book::ABSENT {
+        return 0;
+    }
+    gone[m as usize]
+}
+
+// Drops node k where it is node n or the list has 1 at its machine. Else clears its transitions into n, which it has none of where its
+// machine is not p.
+fn remove_at(book: &mut [u32], sheet: &mut [u32], gone: &[u32; 64], p: u32, n: u32, k: u32)
+    requires { ⌜ Sized (now book) (now sheet) × (n < nodes) × (k < nodes) × Linked (treeOf (now book)) p n k ⌝ }
+    ensures { λ r. ⌜ RemovedAt (now (book .entry)) (now (sheet .entry)) (now (book .exit)) (now (sheet .exit)) (goesWith (treeOf (now (book .entry))) (chosen (now (gone .entry))) n) n k ⌝ }
+{
+    if goes_with(book, gone, n, k) == 1 {
+        clearing::drop_node(book, sheet, k);
+        return;
+    }
+    if book::owner(book, k) != p {
+        return;
+    }
+    clear_into_from(book, k, n);
+}
+
+// Drops node n and the nodes below it, and clears the transitions into n. The list has 1 at each machine that is held below n. Every node
+// is looked at once; its machine is read before its record is emptied.
+fn remove_nodes(book: &mut [u32], sheet: &mut [u32], gone: &[u32; 64], n: u32)
+    requires { ⌜ WellFormed (now book) × (length (now sheet) ≡ sheetLength) × Used (treeOf (now book)) n × Listed machines (heldWithin (treeOf (now book)) n) (now gone) ⌝ }
+    ensures { λ r. ⌜ NodesRemoved (now (book .entry)) (now (sheet .entry)) (now (book .exit)) (now (sheet .exit)) n ⌝ }
+{
+    let p = book::owner(book, n);
     let mut k = 0u32;
     while k < book::NODES {
-        clear_into_from(book, k, n);
+        remove_at(book, sheet, gone, p, n, k);
         k += 1;
     }
 }
@@ -116,9 +139,7 @@ pub fn do_remove(book: &mut [u32], sheet: &mut [u32], n: u32)
     ensures { λ r. ⌜ Edited (now (book .entry)) (now (sheet .entry)) (Edit.remove n) (now (book .exit)) (now (sheet .exit)) ⌝ }
 {
     marking::touch(book, sheet, n);
-    let gone = nodes_within(book, n);
-    let held = machines_within(book, &gone);
-    clear_into(book, n);
-    clearing::clear_nodes(book, sheet, &gone);
-    clearing::clear_machines(book, sheet, &held);
+    let gone = machines_within(book, n);
+    remove_nodes(book, sheet, &gone, n);
+    clearing::clear_machines(book, sheet, &gone);
 }

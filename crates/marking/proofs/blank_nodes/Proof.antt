@@ -1,31 +1,31 @@
--- `marking::blank_nodes` meets its contract: after each turn the machine's nodes below n are blank. Assumes nothing.
+-- `marking::blank_nodes` meets its contract: after each turn the nodes of the list's machines below n are blank. Assumes nothing.
 use mathlib.Core.Path.{sym, _∙_}
 use Prim.Native.Nat.{_≤_, _-_}
 use native.Mathlib.Omega.{arith}
 use denote.Ref.{now}
 use Rattle.definitions.specs.Limits.{nodes}
 use Rattle.definitions.specs.Book.{treeOf}
-use Rattle.marking.specs.Stale.{LeavesBlank}
-use Rattle.marking.proofs.Blanks.{ownedUnder, blanking-none, blanking-more, blanking-all}
+use Rattle.marking.specs.Chosen.{chosen, upTo}
+use Rattle.marking.specs.Stale.{ownedBy, LeavesBlank}
+use Rattle.marking.proofs.Blanks.{blanking-none, blanking-more, blanking-all}
 use Rattle.marking.proofs.blank_nodes.Statement.{statement}
 use Rattle.marking.proofs.blank_nodes.Tie as tie
 
 abbrev Inv-loop : tie.InvT-loop
-Inv-loop book sheet₀ m n₀ sheet n = (n ≤ nodes) × LeavesBlank sheet₀ sheet (ownedUnder (treeOf book) m n)
+Inv-loop book sheet₀ list n₀ sheet n = (n ≤ nodes) × LeavesBlank sheet₀ sheet (upTo (ownedBy (treeOf book) (chosen list)) n)
 
 abbrev μ-loop : tie.MeasureT-loop
-μ-loop book sheet₀ m n₀ sheet n = nodes - n
+μ-loop book sheet₀ list n₀ sheet n = nodes - n
 
 loop-holds : tie.Need-loop-holds Inv-loop μ-loop
 loop-holds c =
     let e = c .before .before in
-    (omega arith, blanking-none (treeOf (now (e .args .book))) (e .args .m) (now (e .args .sheet)) (e .pre .1))
+    (omega arith, blanking-none (ownedBy (treeOf (now (e .args .book))) (chosen (now (e .args .list)))) (now (e .args .sheet)) (e .pre .1))
 
 blank-if-owned-requires : tie.Need-blank-if-owned-requires Inv-loop μ-loop
 blank-if-owned-requires c κs =
     let l = c .before .before in
-    let e = l .before .before .before in
-    (e .pre .0, l .loop .inv .1 .length, e .pre .2, c .before .loop-test .taken)
+    (l .before .before .before .pre .0, l .loop .inv .1 .length, c .before .loop-test .taken)
 
 add-n : tie.Need-add-n Inv-loop μ-loop
 add-n c = omega arith
@@ -38,7 +38,7 @@ loop-again c =
     let l = c .before .before .before .before .before in
     let e = l .before .before .before in (
       omega arith,
-      blanking-more (treeOf (now (e .args .book))) (e .args .m) (l .loop .n) (l .loop .inv .1)
+      blanking-more (ownedBy (treeOf (now (e .args .book))) (chosen (now (e .args .list)))) (l .loop .n) (l .loop .inv .1)
           (c .before .before .blank-if-owned .ensures),
     )
 
@@ -49,7 +49,7 @@ returns : tie.Need-returns Inv-loop μ-loop
 returns c =
     let l = c .before in
     let e = l .before .before .before in
-    blanking-all (now (e .args .book)) (e .args .m) (l .loop .n) (omega arith) (l .loop .inv .1)
+    blanking-all (now (e .args .book)) (chosen (now (e .args .list))) (l .loop .n) (omega arith) (l .loop .inv .1)
 
 pub blank-nodes-spec : {M : Type 1} → statement M
 blank-nodes-spec =

@@ -5,21 +5,22 @@ use native.Mathlib.Omega.{arith}
 use denote.Ref.{now}
 use Rattle.definitions.specs.Limits.{machines}
 use Rattle.definitions.specs.Book.{treeOf}
-use Rattle.removing.specs.Within.{Listed, heldBy}
+use Rattle.definitions.specs.Edit.{heldWithin}
+use Rattle.removing.specs.Within.{Listed}
 use Rattle.removing.proofs.Lists.{listed-none, listed-more, listed-all}
 use Rattle.removing.proofs.machines_within.Statement.{statement}
 use Rattle.removing.proofs.machines_within.Tie as tie
 
 abbrev Inv-loop : tie.InvT-loop
-Inv-loop book gone list₀ m₀ list m = (m ≤ machines) × Listed machines m (heldBy (treeOf book) gone) list
+Inv-loop book n list₀ m₀ list m = (m ≤ machines) × Listed m (heldWithin (treeOf book) n) list
 
 abbrev μ-loop : tie.MeasureT-loop
-μ-loop book gone list₀ m₀ list m = machines - m
+μ-loop book n list₀ m₀ list m = machines - m
 
 loop-holds : tie.Need-loop-holds Inv-loop μ-loop
 loop-holds c =
     let e = c .before in
-    (omega arith, listed-none machines (heldBy (treeOf (now (e .args .book))) (now (e .args .gone))) _ refl)
+    (omega arith, listed-none (heldWithin (treeOf (now (e .args .book))) (e .args .n)) _ refl)
 
 held-within-requires : tie.Need-held-within-requires Inv-loop μ-loop
 held-within-requires c κs = (c .before .before .before .pre, c .loop-test .taken)
@@ -44,7 +45,7 @@ loop-again c =
     let l = c .before .before .loop in
     let e = c .before .before .before .before in (
       omega arith,
-      listed-more machines (heldBy (treeOf (now (e .args .book))) (now (e .args .gone))) (l .m) (l .inv .1) (c .before .loop-test .taken)
+      listed-more (heldWithin (treeOf (now (e .args .book))) (e .args .n)) (l .m) (l .inv .1) (c .before .loop-test .taken)
           (c .held-within .result) (c .held-within .ensures),
     )
 
@@ -52,7 +53,7 @@ returns : tie.Need-returns Inv-loop μ-loop
 returns c =
     let l = c .before .loop in
     let e = c .before .before .before in
-    listed-all machines (heldBy (treeOf (now (e .args .book))) (now (e .args .gone))) (l .m) (l .inv .1) (c .loop-test .left)
+    listed-all (heldWithin (treeOf (now (e .args .book))) (e .args .n)) (l .m) (l .inv .1) (c .loop-test .left)
 
 pub machines-within-spec : {M : Type 1} → statement M
 machines-within-spec =
