@@ -3,7 +3,7 @@
 -- Assumes nothing.
 use mathlib.Core.Path.{_≡_, refl, ap, ap₂, _∙_}
 use mathlib.Core.Option.{Option, none, some}
-use mathlib.Core.List.{List, _∷_, _++_}
+use mathlib.Core.List.{List, _++_}
 use Prim.Native.Nat.{ℕ, zero, suc, _+_, _*_, _-_, _/_, _%_, _≤_, _<_}
 use native.Mathlib.Nat.{not-suc-le-zero, le-of-suc-le-suc, zero-lt-suc, mul-le-mul-right}
 use native.Mathlib.Nat.{div-add-mod', mod-lt, div-lt-iff-lt-mul, mul-add-div-right, mul-add-mod-self-right, mod-eq-of-lt, div-eq-of-lt}
@@ -39,13 +39,6 @@ unfolding tabulate
 tabulate-at zero f i d h = absurd (not-suc-le-zero h)
 tabulate-at (suc k) f zero d h = refl
 tabulate-at (suc k) f (suc i) d h = tabulate-at k (λ j. f (suc j)) i d (le-of-suc-le-suc h)
-
--- two functions that agree below k give the same list
-pub tabulate-same : {A : Type 0} (k : ℕ) (f g : ℕ → A) → ((i : ℕ) → i < k → f i ≡ g i) → tabulate k f ≡ tabulate k g
-unfolding tabulate
-tabulate-same zero f g h = refl
-tabulate-same (suc k) f g h =
-    ap₂ _∷_ (h 0 (zero-lt-suc k)) (tabulate-same k (λ i. f (suc i)) (λ i. g (suc i)) (λ i l. h (suc i) (omega arith)))
 
 -- ---- tables of records
 

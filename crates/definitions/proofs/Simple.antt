@@ -279,12 +279,7 @@ run-keeps t top P keeps s h (x ∷ xs) e =
     let (all, last) = run-keeps t top P keeps (first .mid .node) (keeps s x (first .mid) h (first .step)) xs (first .rest) in
     (rw (trail-cons t top s x xs (first .step)) (h, all), subst (λ (a : Arrival). P (a .node)) (first .joins) last)
 
--- so a list from a node inside top passes only such nodes
-pub run-inside : {t : Tree} → Sound t → {top s : ℕ} → Inside t top s → (xs : List ℕ) {a : Arrival} → runIn t top s xs ≡ some a
-    → All (Inside t top) (trail t top s xs) × Inside t top (a .node)
-run-inside {t} sound {top} {s} i xs e = run-keeps t top (Inside t top) (λ n x a h f. step-inside sound h x f .inside) s i xs e
-
--- and a list from a state inside top only such states
+-- so a list from a state inside top passes only such states
 pub run-states : {t : Tree} → Sound t → {top s : ℕ} → StateIn t top s → (xs : List ℕ) {a : Arrival} → runIn t top s xs ≡ some a
     → All (StateIn t top) (trail t top s xs) × StateIn t top (a .node)
 run-states {t} sound {top} {s} i xs e = run-keeps t top (StateIn t top) (λ n x a h f. step-inside sound (h .inside) x f) s i xs e

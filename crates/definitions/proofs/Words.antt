@@ -409,10 +409,6 @@ encode-well-formed t s = record { length = encode-length t; sound = rw (treeOf-e
 pub one-tree : (ws : List ℕ) → WellFormed ws → (t : Tree) → Sound t → encode t ≡ ws → t ≡ treeOf ws
 one-tree ws w t s e = sym (treeOf-encode t s) ∙ ap treeOf e
 
--- two sound trees with the same words are one tree
-pub encode-injective : (t u : Tree) → Sound t → Sound u → encode t ≡ encode u → t ≡ u
-encode-injective t u s r e = one-tree (encode u) (encode-well-formed u r) t s e ∙ treeOf-encode u r
-
 -- the tree of a list has the words of the list, for every machine
 pub treeOf-machine : (ws : List ℕ) (m k : ℕ) → m < machines → k < machineFields → machineField (treeOf ws) m k ≡ machineWord ws m k
 unfolding treeOf
