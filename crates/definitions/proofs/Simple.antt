@@ -2,7 +2,7 @@
 -- its machine, and so exit costs and the costs of plans are bounded. Assumes nothing.
 use mathlib.Core.Path.{_≡_, refl, _∙_, ap, subst, fun-ext}
 use mathlib.Core.Logic.{_⊎_, inl, inr, ⊎-elim}
-use mathlib.Core.Bool.{Bool, true, false, cond, not, _&&_, _||_}
+use mathlib.Core.Bool.{Bool, true, false, cond, not, _&&_, or-true}
 use mathlib.Core.Option.{Option, none, some}
 use mathlib.Core.List.{List, [], _∷_}
 use Prim.Native.Nat.{ℕ, zero, suc, _+_, _*_, _-_, _≤_, _<_}
@@ -288,11 +288,6 @@ run-states {t} sound {top} {s} i xs e = run-keeps t top (StateIn t top) (λ n x 
 pub over-own : (t : Tree) {top n : ℕ} → t .owner n ≡ some top → over t top n ≡ true
 unfolding over anyOf path pathF
 over-own t {top} o = rw (isAt-some top top o refl)
-
--- a test or one that passes
-or-true : (b : Bool) → (b || true) ≡ true
-or-true true = refl
-or-true false = refl
 
 -- and it is over the nodes of a machine that is held by a node that it is over
 pub over-on : {t : Tree} → Sound t → {n m h : ℕ} (top : ℕ) → t .owner n ≡ some m → t .holder m ≡ some h → over t top h ≡ true
