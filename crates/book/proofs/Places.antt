@@ -7,13 +7,13 @@ use mathlib.Core.Option.{Option, none}
 use mathlib.Core.List.{List}
 use Prim.Native.Nat.{ℕ, _+_, _*_, _/_, _%_, _≤_, _<_, zero-le}
 use native.Mathlib.Omega.{arith}
+use lib.Arith.{digits-div, digits-mod}
 use lib.Dec.{eqb, ltb}
 use lib.ListN.{length, getD, set}
 use lib.Seq.{getD-set-same, getD-set-other}
 use borrow.Author.Tests.{ltb-true, ltb-false, lt-ltb, le-ltb, eq-eqb, ne-eqb}
 use Rattle.definitions.specs.Basics.{put, unless}
 use Rattle.definitions.specs.Book.{under}
-use Rattle.definitions.proofs.Lists.{place-record, place-element}
 use Rattle.definitions.proofs.Options.{equal-or-not}
 
 -- what is read under a limit is the same where the words are
@@ -67,8 +67,8 @@ changed-grid rows columns n x v f w after hn hx here other i j =
 -- two places of a table that are equal belong to the same record and are the same place of it
 pub place-same : (width n k i j : ℕ) → k < width → j < width → i * width + j ≡ n * width + k → (i ≡ n) × (j ≡ k)
 place-same width n k i j hk hj e = (
-  sym (place-record width i j hj) ∙ ap (λ p. p / width) e ∙ place-record width n k hk,
-  sym (place-element width i j hj) ∙ ap (λ p. p % width) e ∙ place-element width n k hk,
+  sym (digits-div i hj) ∙ ap (λ p. p / width) e ∙ digits-div n hk,
+  sym (digits-mod i hj) ∙ ap (λ p. p % width) e ∙ digits-mod n hk,
 )
 
 -- records of `width` words have each word j of each record i at a place of its own, `place i j`

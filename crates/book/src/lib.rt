@@ -4,7 +4,6 @@ ghost use mathlib.Core.Path.{_≡_};
 ghost use Prim.Native.Nat.{_<_};
 ghost use lib.ListN.{length};
 ghost use Rattle.definitions.specs.Limits.{machines, nodes, commands, bookLength};
-ghost use Rattle.definitions.specs.Tree.{Tree};
 ghost use Rattle.definitions.specs.Book.{word, transitionWord, machineFields, nodeFields, machineField, nodeField, treeOf};
 ghost use Rattle.definitions.specs.Book.{number, transitionOf};
 ghost use Rattle.definitions.specs.Edit.{withTransition};

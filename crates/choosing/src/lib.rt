@@ -1,6 +1,6 @@
 // Choose: the used part of the cheaper of two lists of commands (document 01, "Writing, choosing, the session").
 ghost use mathlib.Core.Path.{_≡_};
-ghost use Prim.Native.Nat.{_≤_, _<_, min};
+ghost use Prim.Native.Nat.{_<_, min};
 ghost use lib.ListN.{length, getD};
 ghost use Rattle.definitions.specs.Limits.{longestList};
 ghost use Rattle.definitions.specs.Book.{treeOf, WellFormed};

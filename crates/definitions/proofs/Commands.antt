@@ -739,7 +739,7 @@ other-kept n none other = refl
 other-kept n (some a) other = rw (ne-eqb (a .target) n (other a refl))
 
 -- nothing is left of nothing
-unless-none : {A : Type 0} (b : Bool) → unless {A = A} b none ≡ none
+pub unless-none : {A : Type 0} (b : Bool) → unless {A = A} b none ≡ none
 unless-none true = refl
 unless-none false = refl
 

@@ -3,11 +3,12 @@
 -- Assumes nothing.
 use mathlib.Core.Path.{_≡_, refl, ap, ap₂, _∙_}
 use mathlib.Core.Option.{Option, none, some}
-use mathlib.Core.List.{List, _∷_, _++_}
+use mathlib.Core.List.{List, _++_}
 use Prim.Native.Nat.{ℕ, zero, suc, _+_, _*_, _-_, _/_, _%_, _≤_, _<_}
-use native.Mathlib.Nat.{not-suc-le-zero, le-of-suc-le-suc, zero-lt-suc, mul-le-mul-right}
-use native.Mathlib.Nat.{div-add-mod', mod-lt, div-lt-iff-lt-mul, mul-add-div-right, mul-add-mod-self-right, mod-eq-of-lt, div-eq-of-lt}
+use native.Mathlib.Nat.{not-suc-le-zero, le-of-suc-le-suc, zero-lt-suc}
+use native.Mathlib.Nat.{div-add-mod', mod-lt, div-lt-iff-lt-mul}
 use native.Mathlib.Omega.{arith}
+use lib.Arith.{digits-lt, digits-div, digits-mod}
 use lib.ListN.{length, getD, List·getD-append}
 use lib.Seq.{getD-append-add}
 use Rattle.definitions.specs.Basics.{tabulate}
@@ -18,12 +19,6 @@ use Rattle.definitions.specs.Basics.{tabulate}
 pub no-value : {A : Type 0} (o : Option A) → ((a : A) → o ≡ some a → ⊥) → o ≡ none
 no-value none h = refl
 no-value (some a) h = absurd (h a refl)
-
--- nothing is both none and a value
-pub not-both : {A : Type 0} (o : Option A) (a : A) → o ≡ none → o ≡ some a → ⊥
-not-both o a e f =
-    let z : _≡_ {A = ℕ} 0 1 = cc in
-    omega arith
 
 -- ---- tabulate
 
@@ -40,13 +35,6 @@ tabulate-at zero f i d h = absurd (not-suc-le-zero h)
 tabulate-at (suc k) f zero d h = refl
 tabulate-at (suc k) f (suc i) d h = tabulate-at k (λ j. f (suc j)) i d (le-of-suc-le-suc h)
 
--- two functions that agree below k give the same list
-pub tabulate-same : {A : Type 0} (k : ℕ) (f g : ℕ → A) → ((i : ℕ) → i < k → f i ≡ g i) → tabulate k f ≡ tabulate k g
-unfolding tabulate
-tabulate-same zero f g h = refl
-tabulate-same (suc k) f g h =
-    ap₂ _∷_ (h 0 (zero-lt-suc k)) (tabulate-same k (λ i. f (suc i)) (λ i. g (suc i)) (λ i l. h (suc i) (omega arith)))
-
 -- ---- tables of records
 
 -- `count` records of `width` elements, one after the other: element k of record i is `field i k`
@@ -57,28 +45,12 @@ table width count field = tabulate (count * width) (λ i. field (i / width) (i %
 pub table-length : {A : Type 0} (width count : ℕ) (field : ℕ → ℕ → A) → length (table width count field) ≡ count * width
 table-length width count field = tabulate-length (count * width) (λ i. field (i / width) (i % width))
 
--- element k of record i stands inside the table
-pub place-inside : (width count i k : ℕ) → i < count → k < width → i * width + k < count * width
-place-inside width count i k hi hk =
-    let up : suc i * width ≤ count * width = mul-le-mul-right width hi in
-    omega arith
-
--- its place says which record it belongs to
-pub place-record : (width i k : ℕ) → k < width → (i * width + k) / width ≡ i
-place-record width i k h =
-    let pos : 0 < width = omega arith in
-    mul-add-div-right pos i k ∙ omega (arith, div-eq-of-lt h)
-
--- and which element of that record it is
-pub place-element : (width i k : ℕ) → k < width → (i * width + k) % width ≡ k
-place-element width i k h = mul-add-mod-self-right i width k ∙ mod-eq-of-lt h
-
 -- the table gives each element of each record back
 pub table-at : {A : Type 0} (width count : ℕ) (field : ℕ → ℕ → A) (i k : ℕ) (d : A) → i < count → k < width
     → getD (table width count field) (i * width + k) d ≡ field i k
 table-at width count field i k d hi hk =
-    tabulate-at (count * width) (λ j. field (j / width) (j % width)) (i * width + k) d (place-inside width count i k hi hk)
-    ∙ ap₂ field (place-record width i k hk) (place-element width i k hk)
+    tabulate-at (count * width) (λ j. field (j / width) (j % width)) (i * width + k) d (digits-lt hi hk)
+    ∙ ap₂ field (digits-div i hk) (digits-mod i hk)
 
 -- and so does a list in which the table stands behind `base` other elements, whatever follows it
 pub section-at : {A : Type 0} (width count : ℕ) (field : ℕ → ℕ → A) (before after : List A) (base i k : ℕ) (d : A)
@@ -87,7 +59,7 @@ pub section-at : {A : Type 0} (width count : ℕ) (field : ℕ → ℕ → A) (b
 section-at width count field before after base i k d e hi hk =
     let rows = table width count field in
     let at : base + i * width + k ≡ length before + (i * width + k) = omega arith in
-    let inside : i * width + k < length rows = omega (arith, table-length width count field, place-inside width count i k hi hk) in
+    let inside : i * width + k < length rows = omega (arith, table-length width count field, digits-lt hi hk) in
     rw at
     (getD-append-add before (rows ++ after) (i * width + k) d
     ∙ List·getD-append rows after d (i * width + k) inside

@@ -13,10 +13,9 @@ use Rattle.definitions.specs.Limits.{commands}
 use Rattle.definitions.specs.Tree.{Tree, Sound, states, above, pathF, path, level}
 use Rattle.definitions.specs.Step.{enterF, enter, counting, leaving, look, climb, stepIn, step, Moves, runBy, passes}
 use Rattle.definitions.specs.Costs.{LeastCost, ExitCost}
-use Rattle.definitions.specs.Book.{under, encode, WellFormed}
+use Rattle.definitions.specs.Book.{under, encode}
 use Rattle.definitions.specs.Sheet.{Rows, encodeRows}
-use Rattle.definitions.specs.Truth.{nodeExit, move, TrueSheet}
-use Rattle.definitions.proofs.Words.{encode-well-formed}
+use Rattle.definitions.specs.Truth.{nodeExit, move}
 use Rattle.definitions.specs.Stream.{operandLength, decode, readNext}
 use Rattle.definitions.specs.Edit.{firstHolding, refusals, refusal, single, withTransition, edited}
 use Rattle.definitions.specs.Load.{next, loadF, load, expected}
@@ -204,14 +203,6 @@ cleared-both =
       sheet-true = tested-sheet t s clearedRows refl;
       answer = tested-refused t s clearedRows refl 0 2 refl refl (bound-none t s without-both refl 0 (omega arith) refl 2 refl);
     }
-
--- the mast book's words are a well-formed book, and one complete sheet for it is true
-pub mast-book : WellFormed (encode mastTree)
-mast-book = encode-well-formed mastTree sound
-
-pub mast-sheet : TrueSheet mastTree (encodeRows (freshRows mastRows))
-unfolding computing
-mast-sheet = tested-sheet mastTree sound mastRows refl
 
 -- document 01's starred examples
 pub mast-examples : MastExamples

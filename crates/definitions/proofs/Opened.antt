@@ -10,7 +10,8 @@ use borrow.Author.Tests.{ltb-true, lt-ltb}
 use Rattle.definitions.specs.Tree.{Transition, Sound}
 use Rattle.definitions.specs.Open.{freshTree, ladderMachines, ladderNodes, given, ladderBelow, ladderHolder, ladderTransition, ladderTree}
 use Rattle.definitions.specs.Open.{Opening, fresh, ladder, openTree}
-use Rattle.definitions.proofs.Options.{none-some, some-same, true-false, equal-or-not}
+use Rattle.definitions.proofs.Options.{none-some, some-same, equal-or-not}
+use Rattle.definitions.proofs.Simple.{and-true}
 use Rattle.definitions.proofs.Path.{Deep, at-root, under}
 use Rattle.definitions.proofs.Kept.{single-sound, deep-climbs}
 
@@ -24,12 +25,12 @@ fresh-sound = single-sound (record { machine-range = omega arith; node-range = o
 -- ---- the fields of the ladder
 
 -- a value that is given: the test holds
-given-some : {A : Type 0} (b : Bool) (a : A) {c : A} → given b a ≡ some c → (b ≡ true) × (a ≡ c)
+pub given-some : {A : Type 0} (b : Bool) (a : A) {c : A} → given b a ≡ some c → (b ≡ true) × (a ≡ c)
 given-some true a e = (refl, some-same refl e)
 given-some false a e = absurd (none-some refl e)
 
 -- a number given under a limit
-given-below : (i limit a : ℕ) {c : ℕ} → given (ltb i limit) a ≡ some c → (i < limit) × (a ≡ c)
+pub given-below : (i limit a : ℕ) {c : ℕ} → given (ltb i limit) a ≡ some c → (i < limit) × (a ≡ c)
 given-below i limit a e = let (small, same) = given-some (ltb i limit) a e in (ltb-true i limit small, same)
 
 -- and the other way
@@ -96,11 +97,6 @@ pub below-last : (n m : ℕ) → m < ladderMachines → n % 3 ≡ 2 → m ≡ 2 
 unfolding ladderTree ladderBelow
 below-last n m small z same = rw z (below-given (2 * (n / 3) + 2) ladderMachines (2 * (n / 3) + 2) (omega arith) (sym same))
 
--- both of two tests hold
-both : (a b : Bool) → (a && b) ≡ true → (a ≡ true) × (b ≡ true)
-both true b e = (refl, e)
-both false b e = absurd (true-false e refl)
-
 -- the transitions of a node go to its neighbours in the machine, at cost 1: back for command 0, on for command 1
 pub ladder-transition : (n x : ℕ) (a : Transition) → ladderTree .transition n x ≡ some a
     → (n < ladderNodes) × (a .cost ≡ 1)
@@ -108,14 +104,14 @@ pub ladder-transition : (n x : ℕ) (a : Transition) → ladderTree .transition 
 unfolding ladderTree ladderTransition
 ladder-transition n zero a e =
     let (tests, same) = given-some (ltb 0 (n % 3) && ltb n ladderNodes) (record { target = n - 1; cost = 1 }) e in
-    let (side, small) = both (ltb 0 (n % 3)) (ltb n ladderNodes) tests in (
+    let (side, small) = and-true (ltb 0 (n % 3)) (ltb n ladderNodes) tests in (
       ltb-true n ladderNodes small,
       ap (λ (b : Transition). b .cost) (sym same),
       inl (refl, ltb-true 0 (n % 3) side, ap (λ (b : Transition). b .target) (sym same)),
     )
 ladder-transition n (suc zero) a e =
     let (tests, same) = given-some (ltb (n % 3) 2 && ltb n ladderNodes) (record { target = n + 1; cost = 1 }) e in
-    let (side, small) = both (ltb (n % 3) 2) (ltb n ladderNodes) tests in (
+    let (side, small) = and-true (ltb (n % 3) 2) (ltb n ladderNodes) tests in (
       ltb-true n ladderNodes small,
       ap (λ (b : Transition). b .cost) (sym same),
       inr (refl, ltb-true (n % 3) 2 side, ap (λ (b : Transition). b .target) (sym same)),

@@ -3,11 +3,11 @@ use mathlib.Core.Path.{_≡_, refl, ap}
 use mathlib.Core.Logic.{_⊎_, inl, inr}
 use mathlib.Core.Bool.{Bool, true, false}
 use mathlib.Core.Option.{Option, none, some}
-use Prim.Native.Nat.{ℕ}
+use Prim.Native.Nat.{ℕ, zero, suc}
 use native.Mathlib.Omega.{arith}
 use lib.Dec.{eqb}
 use borrow.Author.Tests.{eqb-true, eqb-false, eq-eqb, ne-eqb}
-use Rattle.definitions.specs.Basics.{_>>=_, isSome, isAt, put}
+use Rattle.definitions.specs.Basics.{_>>=_, iterate, isSome, isAt, put}
 
 -- what a value bound to another was bound from
 pub bind-some : {A B : Type 0} (o : Option A) (f : A → Option B) {b : B} → (o >>= f) ≡ some b → (a : A) × (o ≡ some a) × (f a ≡ some b)
@@ -42,6 +42,14 @@ equal-or-not a b = go (eqb a b) refl
 -- one value at most
 pub some-same : {A : Type 0} {o : Option A} {a b : A} → o ≡ some a → o ≡ some b → a ≡ b
 some-same p q = cc
+
+-- a step repeated: once more at the end
+pub iterate-more : (f : ℕ → Option ℕ) (j n : ℕ) {m p : ℕ} → iterate f j n ≡ some m → f m ≡ some p → iterate f (suc j) n ≡ some p
+unfolding iterate
+iterate-more f zero n {m} {p} e last = rw (some-same {a = n} refl e, last)
+iterate-more f (suc j) n e last =
+    let (u, first, rest) = bind-some (f n) (iterate f j) e in
+    rw first (iterate-more f j u rest last)
 
 -- a function changed at k has the new value at k, and elsewhere the old ones
 pub put-same : {A : Type 0} (f : ℕ → A) (k : ℕ) (v : A) → put f k v k ≡ v

@@ -115,6 +115,13 @@ level-bound s {n} {m} own =
     let (k, small, way) = deep s used in
     omega (arith, level-deep s own way)
 
+-- the nodes of one machine are at one level
+pub same-level : {t : Tree} → Sound t → {u v m : ℕ} → t .owner u ≡ some m → t .owner v ≡ some m → level t u ≡ level t v
+same-level s {u} {m = m} own-u own-v =
+    let (f, used) = s .owner-used u m own-u in
+    let (k, small, way) = deep s used in
+    level-deep s own-u way ∙ sym (level-deep s own-v way)
+
 -- ---- entering a node
 
 -- node n is entered at state f: by the start nodes of the machines below it

@@ -220,10 +220,6 @@ module _ (t : Tree) (s : Sound t) (r : Rows)
       let (g, st) = s .held-used b u (s .below-held u b bel) in
       had x d st (filled-below b m (parent-below s own-u bel) full) range exit
 
-  -- every reached node of a filled row is reached by a list
-  pub leads : {m f e n : ℕ} (c : ℕ) → t .start m ≡ some f → r .stale m ≡ false → Enters t f e → t .owner n ≡ some m → r .cost n ≡ some c → Leads t m e n c
-  leads {m} c st full en own-n cost = leads-in c st full (lower full) en own-n cost
-
   -- every reached node of a filled row that has no transition for x can be left by x, at its cost and its own exit cost
   pub had-at : {m f n : ℕ} (x c e : ℕ) → t .start m ≡ some f → r .stale m ≡ false → x < commands → t .owner n ≡ some m → r .cost n ≡ some c
       → counting t n x ≡ none → nodeExit t r n x ≡ some e → Had t m x (c + e)

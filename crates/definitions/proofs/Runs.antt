@@ -38,10 +38,6 @@ pub run-nil : (f : ℕ → ℕ → Option Arrival) (n : ℕ) → runBy f n [] �
 unfolding runBy
 run-nil f n = refl
 
--- the run of one command
-pub run-one : (f : ℕ → ℕ → Option Arrival) (n x : ℕ) {a : Arrival} → f n x ≡ some a → runBy f n (x ∷ []) ≡ some (record { node = a .node; cost = a .cost + 0 })
-run-one f n x {a} e = run-cons f n x [] e (run-nil f (a .node))
-
 -- ---- two lists in a row
 
 arrival : (n : ℕ) {c d : ℕ} → c ≡ d → _≡_ {A = Option Arrival} (some (record { node = n; cost = c })) (some (record { node = n; cost = d }))

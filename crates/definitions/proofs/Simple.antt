@@ -2,7 +2,7 @@
 -- its machine, and so exit costs and the costs of plans are bounded. Assumes nothing.
 use mathlib.Core.Path.{_≡_, refl, _∙_, ap, subst, fun-ext}
 use mathlib.Core.Logic.{_⊎_, inl, inr, ⊎-elim}
-use mathlib.Core.Bool.{Bool, true, false, cond, not, _&&_, _||_}
+use mathlib.Core.Bool.{Bool, true, false, cond, not, _&&_, or-true}
 use mathlib.Core.Option.{Option, none, some}
 use mathlib.Core.List.{List, [], _∷_}
 use Prim.Native.Nat.{ℕ, zero, suc, _+_, _*_, _-_, _≤_, _<_}
@@ -279,12 +279,7 @@ run-keeps t top P keeps s h (x ∷ xs) e =
     let (all, last) = run-keeps t top P keeps (first .mid .node) (keeps s x (first .mid) h (first .step)) xs (first .rest) in
     (rw (trail-cons t top s x xs (first .step)) (h, all), subst (λ (a : Arrival). P (a .node)) (first .joins) last)
 
--- so a list from a node inside top passes only such nodes
-pub run-inside : {t : Tree} → Sound t → {top s : ℕ} → Inside t top s → (xs : List ℕ) {a : Arrival} → runIn t top s xs ≡ some a
-    → All (Inside t top) (trail t top s xs) × Inside t top (a .node)
-run-inside {t} sound {top} {s} i xs e = run-keeps t top (Inside t top) (λ n x a h f. step-inside sound h x f .inside) s i xs e
-
--- and a list from a state inside top only such states
+-- so a list from a state inside top passes only such states
 pub run-states : {t : Tree} → Sound t → {top s : ℕ} → StateIn t top s → (xs : List ℕ) {a : Arrival} → runIn t top s xs ≡ some a
     → All (StateIn t top) (trail t top s xs) × StateIn t top (a .node)
 run-states {t} sound {top} {s} i xs e = run-keeps t top (StateIn t top) (λ n x a h f. step-inside sound (h .inside) x f) s i xs e
@@ -293,11 +288,6 @@ run-states {t} sound {top} {s} i xs e = run-keeps t top (StateIn t top) (λ n x 
 pub over-own : (t : Tree) {top n : ℕ} → t .owner n ≡ some top → over t top n ≡ true
 unfolding over anyOf path pathF
 over-own t {top} o = rw (isAt-some top top o refl)
-
--- a test or one that passes
-or-true : (b : Bool) → (b || true) ≡ true
-or-true true = refl
-or-true false = refl
 
 -- and it is over the nodes of a machine that is held by a node that it is over
 pub over-on : {t : Tree} → Sound t → {n m h : ℕ} (top : ℕ) → t .owner n ≡ some m → t .holder m ≡ some h → over t top h ≡ true

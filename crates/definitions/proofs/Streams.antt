@@ -23,7 +23,7 @@ taken-refused p q = let z : _≡_ {A = ℕ} 0 1 = cc in omega arith
 taken-ended : {x : Next} {c : Command} {size : ℕ} → x ≡ taken c size → x ≡ ended → ⊥
 taken-ended p q = let z : _≡_ {A = ℕ} 0 1 = cc in omega arith
 
-ended-refused : {x : Next} {k : ℕ} → x ≡ ended → x ≡ refused k → ⊥
+pub ended-refused : {x : Next} {k : ℕ} → x ≡ ended → x ≡ refused k → ⊥
 ended-refused p q = let z : _≡_ {A = ℕ} 0 1 = cc in omega arith
 
 -- ---- the next command as it is written
@@ -272,12 +272,3 @@ load-induction P empty refusing taking t bytes = go (length bytes) t bytes (omeg
         let (some-byte, fits) = next-size t bytes e in
         let shorter = length-drop size bytes in
         go fuel (treeAfter t c) (drop size bytes) (omega arith))
-
--- no more bytes are taken than there are
-pub load-size : (t : Tree) (bytes : List ℕ) → load t bytes .bytes ≤ length bytes
-load-size =
-    load-induction (λ t bytes o. o .bytes ≤ length bytes) (λ t. omega arith) (λ t bytes k e. omega arith)
-    (λ t bytes c size o e rest.
-    let (some-byte, room) = next-size t bytes e in
-    let shorter = length-drop size bytes in
-    omega arith)

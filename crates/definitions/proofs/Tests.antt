@@ -2,7 +2,7 @@
 -- what Step and Plan say of books and sheets of which such facts are known. Assumes nothing.
 use mathlib.Core.Path.{_≡_, refl, _∙_, ap, subst}
 use mathlib.Core.Logic.{_⊎_, inl, inr, ⊎-elim}
-use mathlib.Core.Bool.{Bool, true, false, cond, not, _&&_, _||_}
+use mathlib.Core.Bool.{Bool, true, false, not, _&&_, _||_}
 use mathlib.Core.Option.{Option, none, some}
 use mathlib.Core.List.{List, [], _∷_}
 use Prim.Native.Nat.{ℕ, zero, suc, _+_, _-_, _≤_, _<_}
@@ -29,7 +29,7 @@ use Rattle.definitions.proofs.Runs.{Bounded, bounded-run}
 use Rattle.definitions.proofs.Local.{Relaxed, Attained, move-parts}
 use Rattle.definitions.proofs.LocalTruth.{local-true}
 use Rattle.definitions.proofs.Simple.{and-true, step-stepped}
-use Rattle.definitions.proofs.Words.{encode-length, treeOf-encode, encode-well-formed}
+use Rattle.definitions.proofs.Words.{under-some, encode-length, treeOf-encode, encode-well-formed}
 use Rattle.definitions.proofs.Words.{encodeRows-length, InRange, words-marks, rowsOf-encodeRows}
 
 -- ---- tests
@@ -227,15 +227,6 @@ plan-refused t s r range fresh holds a b state-a state-b no-way buffer room =
 -- o, where it stands under a limit and its value is under another
 unfoldable pub capped : (limit top i : ℕ) → Option ℕ → Option ℕ
 capped limit top i o = under limit i (o >>= λ v. under top v (some v))
-
--- what stands under a limit
-under-some : {A : Type 0} (limit i : ℕ) (o : Option A) {a : A} → under limit i o ≡ some a → (i < limit) × (o ≡ some a)
-unfolding under
-under-some limit i o {a} e = go (ltb i limit) refl e
-  where
-    go : (b : Bool) → ltb i limit ≡ b → cond b o none ≡ some a → (i < limit) × (o ≡ some a)
-    go true small value = (ltb-true i limit small, value)
-    go false small value = absurd (none-some {a = a} refl value)
 
 -- what stands under both
 capped-some : (limit top i : ℕ) (o : Option ℕ) {v : ℕ} → capped limit top i o ≡ some v → (i < limit) × (v < top)

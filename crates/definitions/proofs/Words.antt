@@ -21,7 +21,8 @@ use Rattle.definitions.specs.Book.{word, transitionWord, machineField, n
 use Rattle.definitions.specs.Book.{machineWord, nodeWord, treeOf, WellFormed}
 use Rattle.definitions.specs.Sheet.{Rows, machineRowLength, nodeRowLength, nodeRowBase, machineRows, nodeRows, encodeRows}
 use Rattle.definitions.specs.Sheet.{costWord, staleWord, machineRow, nodeRow, costOf, machineRowWord, nodeRowWord, rowsOf}
-use Rattle.definitions.proofs.Lists.{table-length, section-at, section-same, no-value, not-both}
+use Rattle.definitions.proofs.Lists.{table-length, section-at, section-same, no-value}
+use Rattle.definitions.proofs.Options.{none-some}
 
 -- ---- how long the layouts are
 
@@ -217,6 +218,15 @@ pub under-in : {A : Type 0} (limit i : ℕ) (o : Option A) → i < limit → und
 unfolding under
 under-in limit i o h = rw (lt-ltb i limit h)
 
+-- what is there under a limit is under it
+pub under-some : {A : Type 0} (limit i : ℕ) (o : Option A) {a : A} → under limit i o ≡ some a → (i < limit) × (o ≡ some a)
+unfolding under
+under-some limit i o {a} e = go (ltb i limit) refl
+  where
+    go : (b : Bool) → ltb i limit ≡ b → (i < limit) × (o ≡ some a)
+    go true small = (ltb-true i limit small, rw small at e)
+    go false large = absurd (none-some refl (rw large at e))
+
 -- what is read under a limit is o, where below the limit it is o and o has nothing beyond the limit
 pub under-is : {A : Type 0} (limit i : ℕ) (p o : Option A) → (i < limit → p ≡ o) → ((a : A) → o ≡ some a → i < limit)
     → under limit i p ≡ o
@@ -348,7 +358,7 @@ module _ (t : Tree) (s : Sound t) where
       no-value (t .below n)
       (λ m f.
       let own = s .holder-used m n (s .below-held n m f) in
-      not-both (t .owner n) (own .0) e (own .1))
+      none-some e (own .1))
 
   -- a node that is not in use has no transition
   pub unused-transition : (n x : ℕ) → t .owner n ≡ none → t .transition n x ≡ none
@@ -356,7 +366,7 @@ module _ (t : Tree) (s : Sound t) where
       no-value (t .transition n x)
       (λ a f.
       let own = s .transition-owned n x a f in
-      not-both (t .owner n) (own .0) e (own .1))
+      none-some e (own .1))
 
   -- no node holds a machine that is not in use
   pub unused-holder : (m : ℕ) → t .start m ≡ none → t .holder m ≡ none
@@ -364,7 +374,7 @@ module _ (t : Tree) (s : Sound t) where
       no-value (t .holder m)
       (λ n f.
       let start = s .held-used m n f in
-      not-both (t .start m) (start .0) e (start .1))
+      none-some e (start .1))
 
 -- ---- a sound tree is read back out of its words
 
@@ -408,10 +418,6 @@ encode-well-formed t s = record { length = encode-length t; sound = rw (treeOf-e
 -- a well-formed book is the encoding of exactly one tree, the one that its words hold
 pub one-tree : (ws : List ℕ) → WellFormed ws → (t : Tree) → Sound t → encode t ≡ ws → t ≡ treeOf ws
 one-tree ws w t s e = sym (treeOf-encode t s) ∙ ap treeOf e
-
--- two sound trees with the same words are one tree
-pub encode-injective : (t u : Tree) → Sound t → Sound u → encode t ≡ encode u → t ≡ u
-encode-injective t u s r e = one-tree (encode u) (encode-well-formed u r) t s e ∙ treeOf-encode u r
 
 -- the tree of a list has the words of the list, for every machine
 pub treeOf-machine : (ws : List ℕ) (m k : ℕ) → m < machines → k < machineFields → machineField (treeOf ws) m k ≡ machineWord ws m k

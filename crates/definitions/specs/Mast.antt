@@ -1,6 +1,6 @@
 -- Document 01, "The mast book": the starred examples, as one statement about the definitions.
 use mathlib.Core.Path.{_≡_}
-use mathlib.Core.Option.{none, some}
+use mathlib.Core.Option.{some}
 use mathlib.Core.List.{List, [], _∷_}
 use Prim.Native.Nat.{ℕ, _≤_, _<_}
 use lib.ListN.{length}
@@ -9,7 +9,7 @@ use Rattle.definitions.specs.Tree.{Tree}
 use Rattle.definitions.specs.Costs.{LeastCost, ExitCost}
 use Rattle.definitions.specs.Book.{encode}
 use Rattle.definitions.specs.Truth.{TrueSheet}
-use Rattle.definitions.specs.Load.{Outcome, load, expected}
+use Rattle.definitions.specs.Load.{load, expected}
 use Rattle.definitions.specs.Open.{fresh, openTree}
 use Rattle.definitions.specs.Answer.{gives, refuses}
 use Rattle.definitions.specs.Calls.{StepSays, Plan, PlanSays}

@@ -4,10 +4,9 @@ use mathlib.Core.Logic.{⊎-elim}
 use mathlib.Core.Bool.{Bool, true, false, not, _||_}
 use mathlib.Core.Option.{Option, none, some}
 use mathlib.Core.List.{List, [], _∷_}
-use Prim.Native.Nat.{ℕ, suc, _<_}
+use Prim.Native.Nat.{ℕ, _<_}
 use native.Mathlib.Omega.{arith}
 use lib.Dec.{eqb}
-use lib.ListN.{length}
 use borrow.Author.Tests.{eq-eqb, ne-eqb, not-false}
 use Rattle.definitions.specs.Limits.{machines, nodes, commands, levels, absent}
 use Rattle.definitions.specs.Basics.{option, isSome, anyBelow}
@@ -15,8 +14,8 @@ use Rattle.definitions.specs.Tree.{Tree, Sound, usedMachine, usedNode, level}
 use Rattle.definitions.specs.Book.{word, treeOf, WellFormed}
 use Rattle.definitions.specs.Edit.{Test, _when_, firstHolding, badMachine, badNode, badCommand, isStart, apart, lowest}
 use Rattle.definitions.proofs.Options.{decided, true-false, isSome-true}
-use Rattle.definitions.proofs.Path.{deep, path-root, level-on, level-deep}
-use Rattle.definitions.proofs.Words.{present-word, owner-range, start-range, below-range, no-holder, no-start}
+use Rattle.definitions.proofs.Path.{same-level}
+use Rattle.definitions.proofs.Words.{present-word, owner-range, start-range, below-range, no-start}
 use Rattle.definitions.proofs.Commands.{neither, in-range, none-below, below-none}
 use Rattle.stepping.specs.Meaning.{Used}
 use Rattle.stepping.proofs.Laws.{owner-told}
@@ -88,13 +87,6 @@ unfolding word
 there none fits {w} e = rw (eq-eqb w absent e)
 there (some n) fits {w} e = let small : n < absent = fits n refl in rw (ne-eqb w absent (λ same. omega arith))
 
--- all nodes of a machine stand at one level
-same-level : {t : Tree} → Sound t → {n k m : ℕ} → t .owner n ≡ some m → t .owner k ≡ some m → level t n ≡ level t k
-same-level s {n} {k} {m} own-n own-k =
-    let (f, used) = s .owner-used n m own-n in
-    let (d, small, way) = deep s used in
-    level-deep s own-n way ∙ sym (level-deep s own-k way)
-
 -- a node in use that is the lowest stands at level 8
 lowest-used : (t : Tree) {n m : ℕ} → t .owner n ≡ some m → lowest t n ≡ eqb (level t n) levels
 lowest-used t own = rw own
@@ -162,19 +154,6 @@ module _ (ws : List ℕ) (w : WellFormed ws) where
     pub apart-told : (v : ℕ) → Used (treeOf ws) v → {o p : ℕ} → o ≡ word (treeOf ws .owner n) → p ≡ word (treeOf ws .owner v)
         → not (eqb p o) ≡ apart (treeOf ws) n v
     apart-told v used-v eo ep = rw (owner-told ws w n used eo .0, owner-told ws w v used-v ep .0)
-
-    -- the level of a node of the root, and of another
-    pub level-top : {o h : ℕ} → o ≡ word (treeOf ws .owner n) → h ≡ word (treeOf ws .holder o) → h ≡ absent
-        → level (treeOf ws) n ≡ 1
-    unfolding level
-    level-top {o} eo eh top =
-        ap length (path-root (treeOf ws) (owner-told ws w n used eo .0) (no-holder (treeOf ws) (w .sound) o eh top))
-
-    pub level-up : {o h : ℕ} → o ≡ word (treeOf ws .owner n) → h ≡ word (treeOf ws .holder o) → (h ≡ absent → ⊥)
-        → Used (treeOf ws) h × (level (treeOf ws) n ≡ suc (level (treeOf ws) h))
-    level-up {o} {h} eo eh held =
-        let hold = present-word (treeOf ws .holder o) eh held in
-        (w .sound .holder-used o h hold, level-on (w .sound) (owner-told ws w n used eo .0) hold)
 
     -- the level tells whether the node is the lowest
     pub lowest-told : {l : ℕ} → l ≡ level (treeOf ws) n → eqb l levels ≡ lowest (treeOf ws) n

@@ -5,7 +5,7 @@ ghost use mathlib.Core.Bool.{false, not, _||_};
 ghost use Prim.Native.Nat.{ℕ, _<_};
 ghost use Rattle.definitions.specs.Limits.{machines, nodes};
 ghost use Rattle.definitions.specs.Basics.{isSome, option, anyBelow};
-ghost use Rattle.definitions.specs.Tree.{Tree, usedMachine, usedNode, level};
+ghost use Rattle.definitions.specs.Tree.{Tree, usedMachine, usedNode};
 ghost use Rattle.definitions.specs.Book.{treeOf, WellFormed};
 ghost use Rattle.definitions.specs.Stream.{edit, begin, add, refine, remove, arrow, clear, start, crown};
 ghost use Rattle.definitions.specs.Edit.{badMachine, badNode, badCommand, isStart, apart, lowest, refusal};
@@ -116,29 +116,12 @@ fn apart(book: &[u32], n: u32, v: u32) -> bool
     book::owner(book, v) != book::owner(book, n)
 }
 
-// The level of node n's machine.
-pub fn level(book: &[u32], n: u32) -> u32
-    requires { ⌜ WellFormed (now book) × Used (treeOf (now book)) n ⌝ }
-    ensures { λ r. ⌜ r ≡ level (treeOf (now (book .entry))) n ⌝ }
-{
-    let mut at = n;
-    let mut count: u32 = 1;
-    loop {
-        let h = book::holder(book, book::owner(book, at));
-        if h == book::ABSENT {
-            return count;
-        }
-        at = h;
-        count += 1;
-    }
-}
-
 // Whether node n stands at the lowest level.
 fn lowest(book: &[u32], n: u32) -> bool
     requires { ⌜ WellFormed (now book) × Used (treeOf (now book)) n ⌝ }
     ensures { λ r. ⌜ r ≡ lowest (treeOf (now (book .entry))) n ⌝ }
 {
-    level(book, n) == LEVELS
+    stepping::level(book, n) == LEVELS
 }
 
 // Whether machine m is in use and stands at the lowest level.

@@ -12,7 +12,7 @@ use Rattle.definitions.specs.Edit.{single}
 use Rattle.definitions.specs.Open.{freshTree}
 use Rattle.definitions.proofs.Words.{same-tree}
 use Rattle.opening.specs.Table.{lastUnder, cell, rowOwner, rowBelow, rowStart, nextLower, neighbour, linked}
-use Rattle.opening.specs.Table.{grown, free, withRoot, rootOf, rowTree}
+use Rattle.opening.specs.Table.{grown, free, rootOf, rowTree}
 use Rattle.opening.proofs.Last.{last-is}
 use Rattle.opening.proofs.Growth.{under-out}
 
@@ -21,7 +21,7 @@ abbrev pub freshRow : List ℕ
 freshRow = 0 ∷ 65535 ∷ 1 ∷ []
 
 pub fresh-rows : rowTree freshRow ≡ freshTree
-unfolding rowTree withRoot rootOf free grown linked neighbour nextLower lastUnder cell rowOwner rowBelow rowStart under number word
+unfolding rowTree rootOf free grown linked neighbour nextLower lastUnder cell rowOwner rowBelow rowStart under number word
     freshTree single
 fresh-rows = same-tree (rowTree freshRow) freshTree root owner below start (λ m. refl) transition
   where

@@ -16,7 +16,7 @@ use Rattle.definitions.specs.Sheet.{Rows, staleWord, machineRow, nodeRow, machi
 use Rattle.definitions.specs.Open.{openRows}
 use Rattle.definitions.specs.Calls.{WrongLength, OpenSays}
 use Rattle.definitions.proofs.Words.{machine-word, machine-row-word, node-row-word, encodeRows-length, encodeRows-is, number-is}
-use Rattle.opening.specs.Table.{grown, free, withRoot, rootOf, rowCount, rowTree}
+use Rattle.opening.specs.Table.{grown, free, rootOf, rowCount, rowTree}
 use Rattle.opening.proofs.Last.{last-under, last-same}
 use Rattle.opening.proofs.Stores.{root-store}
 
@@ -90,7 +90,7 @@ book-rooted rows ws r h e f =
 -- a sheet with the marks of that book is the opening's
 pub sheet-marked : (rows book sheet : List ℕ) → rowCount rows ≤ nodes → book ≡ encode (rowTree rows)
     → sheet ≡ encodeRows (openRows (treeOf book)) → sheet ≡ encodeRows (openRows (rowTree rows))
-unfolding rowTree withRoot
+unfolding rowTree
 sheet-marked rows book sheet h e f =
     let s = grown-named rows (rowCount rows) h in
     f ∙ ap (λ (l : List ℕ). encodeRows (openRows (treeOf l))) e

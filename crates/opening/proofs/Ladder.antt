@@ -1,42 +1,35 @@
 -- A table that passes the ladder's test says the ladder's tree. Assumes nothing.
 use mathlib.Core.Path.{_≡_, refl, sym, _∙_, ap, ap₂}
 use mathlib.Core.Bool.{Bool, true, false, cond, not, _&&_, and-true}
-use mathlib.Core.Option.{Option, none, some}
+use mathlib.Core.Option.{Option, some}
 use mathlib.Core.List.{List}
 use Prim.Native.Nat.{ℕ, zero, suc, _+_, _*_, _-_, _/_, _%_, _≤_, _<_}
 use native.Mathlib.Omega.{arith}
+use lib.Arith.{digits-div, digits-mod}
 use lib.Dec.{T, eqb, ltb, eqb→eq}
 use lib.ListN.{length, getD}
-use borrow.Author.Tests.{ltb-true, ltb-false, lt-ltb, le-ltb, eq-eqb, ne-eqb, eqb-true}
+use borrow.Author.Tests.{ltb-true, ltb-false, lt-ltb, eq-eqb, ne-eqb, eqb-true}
 use Rattle.definitions.specs.Basics.{isAt, isSome}
 use Rattle.definitions.specs.Limits.{machines, absent}
 use Rattle.definitions.specs.Book.{word, number, under}
 use Rattle.definitions.specs.Open.{given, ladderNodes, ladderMachines, ladderBelow, ladderHolder, ladderTransition, ladderTree}
-use Rattle.definitions.proofs.Options.{isAt-true, isAt-some, none-some, some-same, true-false}
-use Rattle.definitions.proofs.Lists.{place-record, place-element}
+use Rattle.definitions.proofs.Options.{isAt-true, isAt-some, none-some}
+use Rattle.definitions.proofs.Simple.{and-true as both}
+use Rattle.definitions.proofs.Commands.{not-true-false}
+use Rattle.definitions.proofs.Opened.{given-some, given-below}
 use Rattle.definitions.proofs.Words.{under-is, number-word, same-tree}
 use Rattle.opening.specs.Table.{rowLength, lastUnder, cell, rowOwner, rowBelow, rowStart, nextLower, neighbour, linked}
-use Rattle.opening.specs.Table.{grown, free, withRoot, rootOf, rowTree}
+use Rattle.book.specs.Fields.{withRoot}
+use Rattle.opening.specs.Table.{grown, free, rootOf, rowTree}
 use Rattle.opening.specs.Ladder.{ladderCell, ladderLength, ladderRight}
 use Rattle.opening.proofs.Every.{every, every-at}
-use Rattle.opening.proofs.Last.{last-is, last-only, last-none, refuted}
+use Rattle.opening.proofs.Last.{last-is, last-only, last-none}
 
 -- ---- the ladder's own fields
 
--- what is given under a limit is there exactly where the limit is kept
+-- what is given under a limit is there where the limit is kept
 given-in : {A : Type 0} (i limit : ℕ) (a : A) → i < limit → given (ltb i limit) a ≡ some a
 given-in i limit a h = rw (lt-ltb i limit h)
-
-given-out : {A : Type 0} (i limit : ℕ) (a : A) → limit ≤ i → given (ltb i limit) a ≡ none
-given-out i limit a h = rw (le-ltb i limit h)
-
--- a value that is given: the test holds
-given-true : {A : Type 0} (b : Bool) (a : A) {c : A} → given b a ≡ some c → (b ≡ true) × (a ≡ c)
-given-true true a e = (refl, some-same refl e)
-given-true false a e = absurd (none-some refl e)
-
-given-some : (i limit a b : ℕ) → given (ltb i limit) a ≡ some b → (i < limit) × (a ≡ b)
-given-some i limit a b e = let (small, same) = given-true (ltb i limit) a e in (ltb-true i limit small, same)
 
 -- the machine below node n is under 63, and its holder is n
 below-rule : (n m : ℕ) → ladderBelow n ≡ some m → (m < ladderMachines) × (0 < m) × (n ≡ 3 * ((m - 1) / 2) + 2 * ((m - 1) % 2))
@@ -45,11 +38,11 @@ below-rule n m e = go (n % 3) refl
   where
     go : (k : ℕ) → n % 3 ≡ k → (m < ladderMachines) × (0 < m) × (n ≡ 3 * ((m - 1) / 2) + 2 * ((m - 1) % 2))
     go zero f =
-        let h = given-some (2 * (n / 3) + 1) ladderMachines (2 * (n / 3) + 1) m (rw f at e) in
+        let h = given-below (2 * (n / 3) + 1) ladderMachines (2 * (n / 3) + 1) (rw f at e) in
         omega arith
     go (suc zero) f = absurd (none-some refl (rw f at e))
     go (suc (suc k)) f =
-        let h = given-some (2 * (n / 3) + 2) ladderMachines (2 * (n / 3) + 2) m (rw f at e) in
+        let h = given-below (2 * (n / 3) + 2) ladderMachines (2 * (n / 3) + 2) (rw f at e) in
         omega arith
 
 -- and the holder of machine p + 1 holds it
@@ -72,11 +65,6 @@ holder-rule p h = go (p % 2) refl
         let held : 2 * (n / 3) + 2 ≡ suc p = omega arith in
         rw third (given-in (2 * (n / 3) + 2) ladderMachines (2 * (n / 3) + 2) (omega arith) ∙ ap {B = Option ℕ} some held)
     go (suc (suc k)) e = absurd (omega arith)
-
--- both of two tests hold
-both : (a b : Bool) → (a && b) ≡ true → (a ≡ true) × (b ≡ true)
-both true b e = (refl, e)
-both false b e = absurd (true-false e refl)
 
 -- a neighbour that is given has its transition
 neighbour-given : (b : Bool) (v : ℕ) → neighbour (given b v) ≡ given b (record { target = v; cost = 1 })
@@ -114,7 +102,7 @@ module _ (rows : List ℕ) (owner : (n : ℕ) → n < ladderNodes → rowOwner r
             (ap₂ _&&_ (start (3 * m + 1) h ∙ eq-eqb ((3 * m + 1) % 3) 1 (omega arith))
             (owned (3 * m + 1) m h ∙ eq-eqb ((3 * m + 1) / 3) m (omega arith)))
             found
-        go false e = last-none ladderNodes p (λ n h. refuted (p n) (λ f. omega (arith, found n h f, ltb-false m ladderMachines e)))
+        go false e = last-none ladderNodes p (λ n h. not-true-false (λ f. omega (arith, found n h f, ltb-false m ladderMachines e)))
 
     -- machine m is held by the ladder's holder
     holder-found : (m : ℕ) → lastUnder ladderNodes (λ n. isAt (rowBelow rows n) m) ≡ ladderHolder m
@@ -128,7 +116,7 @@ module _ (rows : List ℕ) (owner : (n : ℕ) → n < ladderNodes → rowOwner r
         go : (k : ℕ) → lastUnder ladderNodes (λ n. isAt (rowBelow rows n) k) ≡ ladderHolder k
         go zero =
             last-none ladderNodes (λ n. isAt (rowBelow rows n) 0)
-            (λ n h. refuted (isAt (rowBelow rows n) 0) (λ e. omega (arith, found 0 n h e)))
+            (λ n h. not-true-false (λ e. omega (arith, found 0 n h e)))
         go (suc p) = held (ltb (suc p) ladderMachines) refl
           where
             held : (b : Bool) → ltb (suc p) ladderMachines ≡ b
@@ -144,7 +132,7 @@ module _ (rows : List ℕ) (owner : (n : ℕ) → n < ladderNodes → rowOwner r
             held false e =
                 last-none ladderNodes (λ n. isAt (rowBelow rows n) (suc p))
                 (λ n h.
-                refuted (isAt (rowBelow rows n) (suc p)) (λ f. omega (arith, found (suc p) n h f, ltb-false (suc p) ladderMachines e)))
+                not-true-false (λ f. omega (arith, found (suc p) n h f, ltb-false (suc p) ladderMachines e)))
 
     -- the next lower node of node n
     lower-found : (n : ℕ) → n < ladderNodes → nextLower rows n ≡ given (ltb 0 (n % 3)) (n - 1)
@@ -174,7 +162,7 @@ module _ (rows : List ℕ) (owner : (n : ℕ) → n < ladderNodes → rowOwner r
         p v = isAt (nextLower rows v) n
 
         found : (v : ℕ) → v < ladderNodes → p v ≡ true → (0 < v % 3) × (v - 1 ≡ n)
-        found v h e = given-some 0 (v % 3) (v - 1) n (sym (lower-found v h) ∙ isAt-true (nextLower rows v) n e)
+        found v h e = given-below 0 (v % 3) (v - 1) (sym (lower-found v h) ∙ isAt-true (nextLower rows v) n e)
 
         go : (a : Bool) → ltb (n % 3) 2 ≡ a → (b : Bool) → ltb n ladderNodes ≡ b → lastUnder ladderNodes p ≡ given (a && b) (n + 1)
         go true ea true eb =
@@ -185,9 +173,9 @@ module _ (rows : List ℕ) (owner : (n : ℕ) → n < ladderNodes → rowOwner r
             (isAt-some (n + 1 - 1) n (lower-found (n + 1) h ∙ given-in 0 ((n + 1) % 3) (n + 1 - 1) (omega arith)) (omega arith))
             (λ v l f. omega (arith, found v l f))
         go true ea false eb =
-            last-none ladderNodes p (λ v h. refuted (p v) (λ f. omega (arith, found v h f, ltb-false n ladderNodes eb)))
+            last-none ladderNodes p (λ v h. not-true-false (λ f. omega (arith, found v h f, ltb-false n ladderNodes eb)))
         go false ea b eb =
-            last-none ladderNodes p (λ v h. refuted (p v) (λ f. omega (arith, found v h f, ltb-false (n % 3) 2 ea)))
+            last-none ladderNodes p (λ v h. not-true-false (λ f. omega (arith, found v h f, ltb-false (n % 3) 2 ea)))
 
     -- the machine that no node holds is machine 0
     root-found : rootOf (grown rows ladderNodes) ≡ 0
@@ -206,7 +194,7 @@ module _ (rows : List ℕ) (owner : (n : ℕ) → n < ladderNodes → rowOwner r
 
     -- together they say the ladder
     ladder-found : withRoot (grown rows ladderNodes) (rootOf (grown rows ladderNodes)) ≡ ladderTree
-    unfolding withRoot grown ladderTree linked ladderTransition
+    unfolding grown ladderTree linked ladderTransition
     ladder-found =
         same-tree (withRoot (grown rows ladderNodes) (rootOf (grown rows ladderNodes))) ladderTree root-found owner-all below-all start-found
         holder-found transition
@@ -214,7 +202,7 @@ module _ (rows : List ℕ) (owner : (n : ℕ) → n < ladderNodes → rowOwner r
         owner-all : (n : ℕ) → under ladderNodes n (rowOwner rows n) ≡ given (ltb n ladderNodes) (n / 3)
         owner-all n =
             under-is ladderNodes n (rowOwner rows n) (given (ltb n ladderNodes) (n / 3))
-            (λ h. owner n h ∙ sym (given-in n ladderNodes (n / 3) h)) (λ m e. given-some n ladderNodes (n / 3) m e .0)
+            (λ h. owner n h ∙ sym (given-in n ladderNodes (n / 3) h)) (λ m e. given-below n ladderNodes (n / 3) e .0)
 
         below-all : (n : ℕ) → under ladderNodes n (rowBelow rows n) ≡ ladderBelow n
         below-all n = under-is ladderNodes n (rowBelow rows n) (ladderBelow n) (below n) (λ m e. omega (arith, below-rule n m e))
@@ -226,7 +214,7 @@ module _ (rows : List ℕ) (owner : (n : ℕ) → n < ladderNodes → rowOwner r
             lower-found n h
             ∙ ap (λ (b : Bool). given b (n - 1)) (sym (ap (_&&_ (ltb 0 (n % 3))) (lt-ltb n ladderNodes h) ∙ and-true (ltb 0 (n % 3)))))
             (λ v e.
-            let tests = given-true (ltb 0 (n % 3) && ltb n ladderNodes) (n - 1) e .0 in
+            let tests = given-some (ltb 0 (n % 3) && ltb n ladderNodes) (n - 1) e .0 in
             ltb-true n ladderNodes (both (ltb 0 (n % 3)) (ltb n ladderNodes) tests .1))
 
         transition : (n x : ℕ) → linked rows ladderNodes n x ≡ ladderTransition n x
@@ -249,7 +237,7 @@ ladder-rows rows len right =
     cells n k hn hk =
         let i : ℕ = n * rowLength + k in
         eqb→eq (getD rows i absent) (ladderCell (i / rowLength) (i % rowLength)) (every-at ladderRight rows absent right i (omega arith))
-        ∙ ap₂ ladderCell (place-record rowLength n k hk) (place-element rowLength n k hk)
+        ∙ ap₂ ladderCell (digits-div n hk) (digits-mod n hk)
 
     bit : (b : Bool) → eqb (cond b 1 0) 1 ≡ b
     bit true = refl

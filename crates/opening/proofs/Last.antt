@@ -6,12 +6,8 @@ use mathlib.Core.Option.{none, some}
 use Prim.Native.Nat.{ℕ, zero, suc, _<_}
 use native.Mathlib.Omega.{arith}
 use Rattle.definitions.proofs.Options.{equal-or-not, some-same, none-some}
+use Rattle.definitions.proofs.Commands.{not-true-false}
 use Rattle.opening.specs.Table.{lastUnder}
-
--- a test that cannot be true is false
-pub refuted : (b : Bool) → (b ≡ true → ⊥) → b ≡ false
-refuted true h = absurd (h refl)
-refuted false h = refl
 
 -- one number more: it is the greatest where it passes
 pub last-pass : (k : ℕ) (p : ℕ → Bool) → p k ≡ true → lastUnder (suc k) p ≡ some k
@@ -40,7 +36,7 @@ last-is (suc k) n p l e h =
 
 -- the only number that passes is the greatest
 pub last-only : (k n : ℕ) (p : ℕ → Bool) → n < k → p n ≡ true → ((j : ℕ) → j < k → p j ≡ true → j ≡ n) → lastUnder k p ≡ some n
-last-only k n p l e only = last-is k n p l e (λ j above under. refuted (p j) (λ f. omega (arith, only j under f)))
+last-only k n p l e only = last-is k n p l e (λ j above under. not-true-false (λ f. omega (arith, only j under f)))
 
 -- what is found is under the limit
 pub last-under : (k : ℕ) (p : ℕ → Bool) (n : ℕ) → lastUnder k p ≡ some n → n < k

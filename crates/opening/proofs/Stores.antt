@@ -2,7 +2,7 @@
 use mathlib.Core.Path.{_≡_, refl, sym, _∙_, ap, ap₂}
 use mathlib.Core.Logic.{⊎-elim}
 use mathlib.Core.List.{List}
-use Prim.Native.Nat.{ℕ, zero, suc, _+_, _*_, _/_, _%_, _<_}
+use Prim.Native.Nat.{ℕ, zero, suc, _+_, _*_, _<_}
 use native.Mathlib.Omega.{arith}
 use lib.ListN.{length, getD, set, length-set}
 use lib.Seq.{getD-set-same, getD-set-other}
@@ -11,9 +11,9 @@ use Rattle.definitions.specs.Tree.{Tree}
 use Rattle.definitions.specs.Book.{word, transitionWord, machineField, nodeField, machineFields, nodeFields, machineBase, nodeBase}
 use Rattle.definitions.specs.Book.{encode, machineWord, nodeWord}
 use Rattle.definitions.proofs.Options.{equal-or-not}
-use Rattle.definitions.proofs.Lists.{place-record, place-element}
 use Rattle.definitions.proofs.Words.{encode-length, encode-is, root-word, machine-word, node-word}
-use Rattle.opening.specs.Table.{withRoot}
+use Rattle.book.specs.Fields.{withRoot}
+use Rattle.book.proofs.Places.{place-same}
 use Rattle.opening.specs.Writes.{setMachine, setNode}
 
 -- the words of a machine are the same where its holder and its start are
@@ -52,9 +52,7 @@ record-store : (width base m k p j w v : ℕ) (l : List ℕ) → k < width → j
 record-store width base m k p j w v l hk hj inside new old =
     ⊎-elim
     (λ e.
-    let same : p * width + j ≡ m * width + k = omega arith in
-    let row : p ≡ m = sym (place-record width p j hj) ∙ ap (λ (i : ℕ). i / width) same ∙ place-record width m k hk in
-    let element : j ≡ k = sym (place-element width p j hj) ∙ ap (λ (i : ℕ). i % width) same ∙ place-element width m k hk in
+    let (row, element) = place-same width m k p j hk hj (omega arith) in
     rw e (getD-set-same l (base + m * width + k) w 0 inside ∙ new row element))
     (λ other.
     getD-set-other l (base + m * width + k) (base + p * width + j) w 0 other
@@ -103,7 +101,7 @@ node-store t u n k hn hk root machine node =
 
 -- the root is written
 pub root-store : (t : Tree) (m : ℕ) → set (encode t) 0 m ≡ encode (withRoot t m)
-unfolding machineWord nodeWord withRoot
+unfolding machineWord nodeWord
 root-store t m =
     encode-is (set (encode t) 0 m) (withRoot t m) (length-set (encode t) 0 m ∙ encode-length t)
     (getD-set-same (encode t) 0 m 0 (omega (arith, encode-length t)))

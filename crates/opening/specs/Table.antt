@@ -10,6 +10,7 @@ use Rattle.definitions.specs.Basics.{_>>=_, isSome, isAt}
 use Rattle.definitions.specs.Limits.{machines, absent}
 use Rattle.definitions.specs.Tree.{Tree, Transition, usedMachine}
 use Rattle.definitions.specs.Book.{word, number, under}
+use Rattle.book.specs.Fields.{withRoot}
 
 -- the greatest number under k that passes the test
 unfoldable pub lastUnder : ℕ → (ℕ → Bool) → Option ℕ
@@ -68,18 +69,6 @@ grown rows k =
 -- whether a machine in use is held by no node
 unfoldable pub free : Tree → ℕ → Bool
 free t m = usedMachine t m && not (isSome (t .holder m))
-
--- the tree with machine m as its root
-unfoldable pub withRoot : Tree → ℕ → Tree
-withRoot t m =
-    record {
-      root = m;
-      owner = t .owner;
-      below = t .below;
-      start = t .start;
-      holder = t .holder;
-      transition = t .transition;
-    }
 
 -- the root that a tree without one asks for: its machine that no node holds
 unfoldable pub rootOf : Tree → ℕ

@@ -1,5 +1,5 @@
 -- States counted, stale machines looked for, and what the search and the expansion make of a plan. Assumes nothing.
-use mathlib.Core.Path.{_≡_, refl, ap, ap₂, subst}
+use mathlib.Core.Path.{_≡_, refl, ap₂, subst}
 use mathlib.Core.Logic.{inl, inr, ⊎-elim}
 use mathlib.Core.Bool.{Bool, true, false, cond}
 use mathlib.Core.Option.{none, some}
@@ -18,10 +18,10 @@ use Rattle.definitions.specs.Answer.{gives, refuses}
 use Rattle.definitions.specs.Calls.{Plan}
 use Rattle.definitions.proofs.Options.{true-false, decided}
 use Rattle.definitions.proofs.Words.{present-word, no-owner, no-below}
-use Rattle.definitions.proofs.Simple.{state-test, plan-largest}
+use Rattle.definitions.proofs.Simple.{state-test}
 use Rattle.plantheory.specs.Search.{openedFor}
 use Rattle.plantheory.proofs.Landing.{opening-for, opened-first, plain-position}
-use Rattle.plantheory.proofs.Planned.{Planned, plan-good, plan-count}
+use Rattle.plantheory.proofs.Planned.{Planned, plan-good, plan-bounds}
 use Rattle.search.specs.Search.{unreached, reached, distanceOf, nameOf}
 use Rattle.truesheet.proofs.Reading.{rowsOf-read}
 use Rattle.crossing.specs.Crossing.{Crossed}
@@ -128,9 +128,15 @@ module _ {book sheet : List ℕ} {a b room : ℕ} (p : Plannable book sheet a b 
     pub the-plan : Plan t a b (getD dist b 0) list
     the-plan = subst (Planned t a b list) (distance-some dist (p .formed .sound .node-range b (p .used-b .0) (p .used-b .1)) there) found
 
+    bounds : (length list ≤ states t - 1) × (getD dist b 0 ≤ largestPlanCost)
+    bounds = plan-bounds t (p .formed .sound) a b (getD dist b 0) list (state-test t (p .used-a .1) (p .plain-a)) the-plan
+
+    -- it costs no more than a plan may, and its commands have room
     pub cost-fits : getD dist b 0 ≤ largestPlanCost
-    cost-fits =
-        plan-largest (p .formed .sound) a b (getD dist b 0) (state-test t (p .used-a .1) (p .plain-a)) (the-plan .least)
+    cost-fits = bounds .1
+
+    pub list-fits : length list ≤ room
+    list-fits = omega (arith, bounds .0, p .enough)
 
     -- the names lead from b back to a
     pub names-lead : Traceable (nameOf nodes before) (nameOf nodes by) b
@@ -139,9 +145,6 @@ module _ {book sheet : List ℕ} {a b room : ℕ} (p : Plannable book sheet a b 
         plan-traceable s (rowsOf sheet) (p .true-sheet .rows) (p .fresh) (openedFor t a b) (opening-for s (p .used-a .1) (p .used-b .1))
         (plain-position (p .used-a .1) (opened-first t b (p .used-a .1)) (p .plain-a)) (p .plain-a) (crossed .searched)
         (distance-some dist (s .node-range b (p .used-b .0) (p .used-b .1)) there)
-
-    pub list-fits : length list ≤ room
-    list-fits = omega (arith, plan-count (p .formed .sound) (p .used-a .1) (p .plain-a) the-plan, p .enough)
 
     pub planned : {buffer buffer′ : List ℕ} {cost count : ℕ} → cost ≡ getD dist b 0 → count ≡ length list
         → buffer′ ≡ list ++ drop (length list) buffer → Answers t a b buffer (gives (cost ∷ count ∷ [])) buffer′

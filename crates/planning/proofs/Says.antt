@@ -13,8 +13,8 @@ use Rattle.definitions.specs.Costs.{LeastCost}
 use Rattle.definitions.specs.Book.{treeOf, WellFormed}
 use Rattle.definitions.specs.Sheet.{rowsOf}
 use Rattle.definitions.specs.Truth.{TrueSheet}
-use Rattle.definitions.specs.Answer.{Answer, gives, refuses, Refusal, refuse, InOrder}
-use Rattle.definitions.specs.Calls.{WrongLength, sheetRefusals, planRefusals, Plan, PlanSays}
+use Rattle.definitions.specs.Answer.{Answer, gives, refuses, Refusal, refuse}
+use Rattle.definitions.specs.Calls.{WrongLength, planRefusals, Plan, PlanSays}
 use Rattle.truesheet.proofs.Lent.{lent-length, lent-torn, lent-untrue, lent-past}
 use Rattle.stepping.specs.Meaning.{StatesJudged}
 use Rattle.stepping.proofs.States.{BothStates, states-met, states-past}

@@ -1,19 +1,13 @@
 // Plan (document 01, "Exit, step and plan"): a cheapest list of commands from one state to another.
 ghost use mathlib.Core.Path.{_≡_};
 ghost use mathlib.Core.Bool.{cond, true, false};
-ghost use mathlib.Core.Option.{none};
-ghost use mathlib.Core.List.{_++_};
-ghost use Prim.Native.Nat.{ℕ, _-_, _≤_, _<_};
-ghost use lib.ListN.{length, drop};
+ghost use Prim.Native.Nat.{ℕ, _-_, _<_};
+ghost use lib.ListN.{length};
 ghost use Rattle.definitions.specs.Limits.{nodes, sheetLength};
-ghost use Rattle.definitions.specs.Tree.{Tree, isState, states};
+ghost use Rattle.definitions.specs.Tree.{isState, states};
 ghost use Rattle.definitions.specs.Book.{treeOf, WellFormed};
-ghost use Rattle.definitions.specs.Sheet.{Rows, rowsOf};
-ghost use Rattle.definitions.specs.Truth.{TrueSheet};
+ghost use Rattle.definitions.specs.Sheet.{rowsOf};
 ghost use Rattle.definitions.specs.Calls.{PlanSays};
-ghost use Rattle.plantheory.specs.Expand.{planPart};
-ghost use Rattle.search.specs.Search.{nameOf};
-ghost use Rattle.stepping.specs.Meaning.{Used};
 ghost use Rattle.wellformed.specs.Decides.{Decides};
 ghost use Rattle.planning.specs.Meaning.{answerOf, Plannable, Answers};
 

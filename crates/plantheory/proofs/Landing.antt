@@ -5,13 +5,13 @@ use mathlib.Core.Bool.{Bool, true, false, cond, _||_, or-true}
 use mathlib.Core.Option.{Option, none, some}
 use Prim.Native.Nat.{ℕ, zero, suc, _+_, _≤_, _<_}
 use native.Mathlib.Omega.{arith}
-use Rattle.definitions.specs.Basics.{_>>=_, option, iterate}
+use Rattle.definitions.specs.Basics.{_>>=_, option}
 use Rattle.definitions.specs.Limits.{commands, levels}
 use Rattle.definitions.specs.Tree.{Tree, Sound, parent, over}
 use Rattle.definitions.specs.Step.{Climb, found, passed, climb, Arrival}
 use Rattle.definitions.specs.Sheet.{Rows}
 use Rattle.definitions.specs.Truth.{nodeExit}
-use Rattle.definitions.proofs.Options.{bind-some, none-some, some-same}
+use Rattle.definitions.proofs.Options.{iterate-more, bind-some, none-some, some-same}
 use Rattle.definitions.proofs.Path.{Deep, deep, deep-small, deep-below, parent-below, Enters, plain, down}
 use Rattle.definitions.proofs.Path.{counting-owned, past-found, passed-found, climb-found}
 use Rattle.definitions.proofs.Inside.{Climbs, finds, ends, leaves, climbs}
@@ -26,16 +26,6 @@ use Rattle.plantheory.specs.Search.{openedFor, landF, land, arrives, pla
 pub record Opening (t : Tree) (opened : ℕ → Bool) : Type 0 where
   pub root-opened : opened (t .root) ≡ true
   pub upward : (m p : ℕ) → parent t m ≡ some p → opened m ≡ true → opened p ≡ true
-
--- one step more at the end
-iterate-more : (f : ℕ → Option ℕ) (j n : ℕ) {m p : ℕ} → iterate f j n ≡ some m → f m ≡ some p → iterate f (suc j) n ≡ some p
-unfolding iterate
-iterate-more f zero n {m} {p} e step =
-    let here : f n ≡ some p = rw (some-same refl e) step in
-    rw here
-iterate-more f (suc j) n e step =
-    let (u, eu, rest) = bind-some (f n) (iterate f j) e in
-    rw eu (iterate-more f j u rest step)
 
 -- the machine just above one that is over a node is over it
 over-parent : {t : Tree} → Sound t → (m p : ℕ) {n o : ℕ} → t .owner n ≡ some o → parent t m ≡ some p → over t m n ≡ true → over t p n ≡ true

@@ -4,25 +4,23 @@ use mathlib.Core.Path.{_≡_, refl, sym, _∙_, ap, subst}
 use mathlib.Core.Bool.{Bool, false}
 use mathlib.Core.Option.{Option, none, some}
 use mathlib.Core.List.{List, [], _∷_, _++_, append-nil}
-use Prim.Native.Nat.{ℕ, _+_, _-_, _≤_, _<_}
+use Prim.Native.Nat.{ℕ, _+_, _≤_}
 use native.Mathlib.Omega.{arith}
-use lib.ListN.{length}
-use Rattle.definitions.specs.Basics.{iterate, All, Distinct}
-use Rattle.definitions.specs.Limits.{nodes, commands, levels}
-use Rattle.definitions.specs.Tree.{Tree, Sound, states}
-use Rattle.definitions.specs.Step.{Arrival, stepIn, runIn, Moves, passes}
+use Rattle.definitions.specs.Basics.{iterate, Distinct}
+use Rattle.definitions.specs.Limits.{nodes, levels}
+use Rattle.definitions.specs.Tree.{Tree, Sound}
+use Rattle.definitions.specs.Step.{Moves, passes}
 use Rattle.definitions.specs.Costs.{LeastCost}
 use Rattle.definitions.specs.Sheet.{Rows}
 use Rattle.definitions.specs.Truth.{TrueRows}
 use Rattle.definitions.specs.Calls.{Plan}
 use Rattle.definitions.specs.Demand.{PlanBounds}
 use Rattle.definitions.proofs.Options.{none-some, some-same}
-use Rattle.definitions.proofs.Path.{Enters, plain, down, climb-found}
-use Rattle.definitions.proofs.Runs.{run-first}
+use Rattle.definitions.proofs.Path.{Enters, plain, down}
 use Rattle.definitions.proofs.Local.{LocalRows}
 use Rattle.definitions.proofs.LocalTruth.{true-local}
 use Rattle.definitions.proofs.Reaching.{along-names}
-use Rattle.definitions.proofs.Simple.{trail, trail-nil, passes-trail, inside-root, state-test, step-stepped, moves-length, plan-largest}
+use Rattle.definitions.proofs.Simple.{trail, trail-nil, passes-trail, inside-root, moves-length, plan-largest}
 use Rattle.plantheory.specs.Search.{openedFor, planMove, PlanNamed, PlanSearched}
 use Rattle.plantheory.specs.Expand.{nodePart, planPart}
 use Rattle.plantheory.proofs.Landing.{Opening, opening-for, opened-first, opened-second, Position, plain-position}
@@ -166,23 +164,7 @@ plan-good {t} s r rows fresh {a} {b} own-a plain-a own-b plain-b {distance} sear
     planned-in s r rows fresh (openedFor t a b) (opening-for s own-a own-b) (plain-position own-a (opened-first t b own-a) plain-a) plain-a
     (plain-position own-b (opened-second t a own-b) plain-b) plain-b search (distance b) refl
 
--- a plan has at most as many commands as there are states less 1
-pub plan-count : {t : Tree} → Sound t → {a b m cost : ℕ} {list : List ℕ} → t .owner a ≡ some m → t .below a ≡ none → Plan t a b cost list
-    → length list ≤ states t - 1
-plan-count {t} s {a} {b} {cost = cost} {list = list} own-a plain-a plan =
-    omega (arith, moves-length s a b list cost (state-test t own-a plain-a) (plan .moves) (plan .simple))
-
--- and it costs at most 255 × 65,535
+-- a plan has at most as many commands as there are states less 1, and it costs at most 255 × 65,535
 pub plan-bounds : PlanBounds
 plan-bounds t s a b cost list at plan =
     (omega (arith, moves-length s a b list cost at (plan .moves) (plan .simple)), plan-largest s a b cost at (plan .least))
-
--- all its commands are commands
-run-commands : {t : Tree} → Sound t → (top n : ℕ) (xs : List ℕ) {a : Arrival} → runIn t top n xs ≡ some a → All (λ x. x < commands) xs
-run-commands s top n [] e = tt
-run-commands {t} s top n (x ∷ xs) e =
-    let first = run-first (stepIn t top) n x xs e in
-    (climb-found s top n x (step-stepped t top n x (first .step) .finds) .range, run-commands s top (first .mid .node) xs (first .rest))
-
-pub plan-commands : {t : Tree} → Sound t → {a b cost : ℕ} {list : List ℕ} → Plan t a b cost list → All (λ x. x < commands) list
-plan-commands {t} s {a} {list = list} plan = run-commands s (t .root) a list (plan .moves)

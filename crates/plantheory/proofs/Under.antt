@@ -7,7 +7,7 @@ use Prim.Native.Nat.{ℕ, _≤_}
 use native.Mathlib.Omega.{arith}
 use Rattle.definitions.specs.Tree.{Tree, Sound, level}
 use Rattle.definitions.proofs.Options.{true-false}
-use Rattle.definitions.proofs.Path.{deep, parent-below, level-on, level-deep, Enters, plain, down}
+use Rattle.definitions.proofs.Path.{parent-below, level-on, same-level}
 use Rattle.definitions.proofs.Potential.{Shut}
 use Rattle.plantheory.proofs.Landing.{Opening, Position}
 
@@ -25,22 +25,10 @@ under-trans upper (lower own-d hold inner) = lower own-d hold (under-trans upper
 pub under-held : {t : Tree} {u b v d : ℕ} → t .holder b ≡ some u → t .owner v ≡ some b → Under t v d → Under t u d
 under-held hold own-v inner = under-trans (lower own-v hold (itself refl)) inner
 
--- a node is entered below it
-pub enters-under : {t : Tree} → Sound t → {n e : ℕ} → Enters t n e → Under t n e
-enters-under s (plain bel) = itself refl
-enters-under s {n} (down {b = b} {f = f} bel st en) = under-held (s .below-held n b bel) (s .start-owned b f st) (enters-under s en)
-
 -- what is below a node is not at a higher level
 under-level : {t : Tree} → Sound t → {n d : ℕ} → Under t n d → level t n ≤ level t d
 under-level {t} s (itself same) = omega (arith, ap (level t) same)
 under-level s (lower own-d hold inner) = omega (arith, level-on s own-d hold, under-level s inner)
-
--- nodes of one machine are at one level
-same-level : {t : Tree} → Sound t → {u v m : ℕ} → t .owner u ≡ some m → t .owner v ≡ some m → level t u ≡ level t v
-same-level s {u} {m = m} own-u own-v =
-    let (f, used) = s .owner-used u m own-u in
-    let (k, small, way) = deep s used in
-    level-deep s own-u way ∙ sym (level-deep s own-v way)
 
 -- Nodes of a kind are apart where two of them have a node below in common only if they are one.
 abbrev pub Apart : Tree → (ℕ → Type 0) → Type 0

@@ -10,10 +10,8 @@ use lib.ListN.{length, drop, length-drop, drop-of-length-le}
 use lib.Seq.{drop-cons}
 use Rattle.definitions.specs.Stream.{refresh, ended, taken, refused, operandLength, byteAt, decode, readNext}
 use Rattle.definitions.proofs.Options.{some-same}
-use Rattle.definitions.proofs.Streams.{read-nothing, read-unknown, read-cut, read-whole, read-size}
-use Rattle.reading.specs.Meaning.{Whole, NextRead}
-use Rattle.reading.specs.declared.Command.{Command}
-use Rattle.reading.specs.declared.Read.the-variants.{Taken}
+use Rattle.definitions.proofs.Streams.{read-nothing, read-unknown, read-cut, read-whole}
+use Rattle.reading.specs.Meaning.{Whole}
 
 -- an opcode outside 0x10 to 0x18 is unknown
 pub unknown : (op : ℕ) → (op ≡ 0x10 → ⊥) → (op ≡ 0x11 → ⊥) → (op ≡ 0x12 → ⊥) → (op ≡ 0x13 → ⊥) → (op ≡ 0x14 → ⊥)
@@ -80,8 +78,3 @@ module _ (bytes : List ℕ) (at : ℕ) where
     next-whole {k} known there =
         let size : 1 + k ≡ suc k = omega arith in
         rw size (sym (ap readNext opcode-first ∙ read-whole op (drop (at + 1) bytes) (sym known) (omega (arith, behind))))
-
--- a command that is read takes one byte at least, and none that is not there
-pub next-size : {bytes : List ℕ} {at : ℕ} {c : Command} {size : ℕ} → NextRead bytes at (Taken c size)
-    → (0 < size) × (at + size ≤ length bytes)
-next-size {bytes} {at} r = omega (arith, read-size (drop at bytes) (sym (r .next)), length-drop at bytes)

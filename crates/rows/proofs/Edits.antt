@@ -4,7 +4,7 @@ use mathlib.Core.Path.{_≡_, refl, sym, _∙_, ap, subst}
 use mathlib.Core.Logic.{_⊎_, inl, inr}
 use mathlib.Core.Bool.{true, false, _||_, or-true}
 use mathlib.Core.Option.{Option, none, some}
-use Prim.Native.Nat.{ℕ, zero, suc}
+use Prim.Native.Nat.{ℕ, suc}
 use lib.Dec.{eqb}
 use borrow.Author.Tests.{eqb-true, eqb-false, ne-eqb}
 use Rattle.definitions.specs.Basics.{option, iterate}
@@ -15,7 +15,7 @@ use Rattle.definitions.specs.Truth.{TrueRows}
 use Rattle.definitions.specs.Stream.{Edit, edit}
 use Rattle.definitions.specs.Edit.{refusal, edited, touches, editedRows}
 use Rattle.definitions.specs.Open.{openRows}
-use Rattle.definitions.proofs.Options.{bind-some, none-some, some-same, true-false, equal-or-not}
+use Rattle.definitions.proofs.Options.{iterate-more, bind-some, none-some, some-same, true-false, equal-or-not}
 use Rattle.definitions.proofs.Commands.{neither, not-true-false, over-climbs, climbs-over, HeldWithin, free-test}
 use Rattle.definitions.proofs.Commands.{Changed, Begun, Added, Refined, Removed, OneTransition, Started, Crowned, Does, does}
 use Rattle.definitions.proofs.Commands.{TakenRefine, TakenCrown, taken-add, taken-refine, taken-remove}
@@ -26,14 +26,6 @@ use Rattle.rows.proofs.Open.{open-true}
 use Rattle.rows.proofs.Touched.{Spares, spared-true}
 
 -- ---- the machines over a node
-
--- one step more
-iterate-last : (f : ℕ → Option ℕ) (k a : ℕ) {b c : ℕ} → iterate f k a ≡ some b → f b ≡ some c → iterate f (suc k) a ≡ some c
-unfolding iterate
-iterate-last f zero a {b} {c} e last = rw (some-same {a = a} refl e, last)
-iterate-last f (suc k) a e last =
-    let (v, first, rest) = bind-some (f a) (iterate f k) e in
-    rw first (iterate-last f k v rest last)
 
 -- the machine just above, by the node that holds a machine
 parent-parts : (t : Tree) (m : ℕ) {p : ℕ} → parent t m ≡ some p → (h : ℕ) × (t .holder m ≡ some h) × (t .owner h ≡ some p)
@@ -54,7 +46,7 @@ module _ {t : Tree} (s : Sound t) {n m : ℕ} (own : t .owner n ≡ some m) wher
   pub over-parent : (q p : ℕ) → over t q n ≡ true → parent t q ≡ some p → over t p n ≡ true
   over-parent q p ov above =
       let (j, climb) = over-climbs s q own ov in
-      climbs-over s p own (suc j) (iterate-last (parent t) j m climb above)
+      climbs-over s p own (suc j) (iterate-more (parent t) j m climb above)
 
   -- a machine that is not over it is not its own machine
   not-owner : {p : ℕ} → over t p n ≡ false → p ≡ m → ⊥

@@ -38,6 +38,18 @@ pub record SameRow (t u : Tree) (r q : Rows) (m : ℕ) : Type 0 where
   pub before : (n : ℕ) → t .owner n ≡ some m → q .before n ≡ r .before n
   pub by : (n : ℕ) → t .owner n ≡ some m → q .by n ≡ r .by n
 
+-- a machine is the same where the tree is
+pub same-machine : (t : Tree) (m : ℕ) → SameMachine t t m
+same-machine t m =
+    record {
+      start = refl;
+      owned = λ n own. own;
+      owner = λ n own. own;
+      below = λ n own. refl;
+      counting = λ n x own range. refl;
+      leaving = λ n b own down. refl;
+    }
+
 -- ---- the moves of a machine
 
 module _ {t u : Tree} {r q : Rows} {m : ℕ} (same : SameMoves t u r q m) where

@@ -7,7 +7,7 @@ use Prim.Native.Nat.{ℕ}
 use Rattle.definitions.specs.Tree.{Tree}
 use Rattle.definitions.specs.Sheet.{Rows}
 use Rattle.definitions.specs.Stream.{Edit, Command, edit, refresh}
-use Rattle.definitions.specs.Edit.{edited, touches, withStale, editedRows, treeAfter}
+use Rattle.definitions.specs.Edit.{edited, touches, withStale, editedRows}
 use Rattle.definitions.specs.Load.{RowsAfterAll}
 
 -- the commands touch machine m nowhere, it is in use after each of them, and node n is one of its nodes all the time

@@ -17,7 +17,7 @@ use Rattle.definitions.proofs.Path.{parent-below, counting-range}
 use Rattle.definitions.proofs.Runs.{run-nil, run-first, run-cons}
 use Rattle.definitions.proofs.Local.{move-parts}
 use Rattle.definitions.proofs.LocalTruth.{filled-below, move-owned}
-use Rattle.rows.proofs.Locality.{SameMoves, same-move}
+use Rattle.rows.proofs.Locality.{same-machine, SameMoves, same-move}
 
 -- two properties of the same numbers have the same least number
 pub least-unique : (P Q : ℕ → Type 0) → ((c : ℕ) → P c → Q c) → ((c : ℕ) → Q c → P c) → (a b : Option ℕ) → Least P a → Least Q b → a ≡ b
@@ -47,14 +47,7 @@ module _ {t : Tree} (s : Sound t) {r q : Rows} (rows : TrueRows t r) (other : Tr
   true-moves : SameMoves t t r q m
   true-moves =
       record {
-        machine = record {
-          start = refl;
-          owned = λ n own. own;
-          owner = λ n own. own;
-          below = λ n own. refl;
-          counting = λ n x own range. refl;
-          leaving = λ n b own down. refl;
-        };
+        machine = same-machine t m;
         below = λ n b x own down range.
             let above = parent-below s own down in
             let full-b = filled-below t r (rows .stale-above) b m above full in

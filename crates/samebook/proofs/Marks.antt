@@ -13,17 +13,13 @@ use Rattle.definitions.specs.Stream.{Edit, begin, add, refine, arrow}
 use Rattle.definitions.specs.Edit.{single, withTransition, edited, touches, withStale, editedRows}
 use Rattle.definitions.specs.Open.{openRows}
 use Rattle.definitions.proofs.Words.{same-rows}
+use Rattle.definitions.proofs.Commands.{unless-none}
 use Rattle.samebook.proofs.Taken.{StaysOpen}
 
 -- a test that follows from another adds nothing to it
 and-follows : (a : Bool) {b : Bool} → (a ≡ true → b ≡ true) → (a && b) ≡ a
 and-follows true h = h refl
 and-follows false h = refl
-
--- nothing is left of nothing
-unless-none : {A : Type 0} (b : Bool) → unless {A = A} b none ≡ none
-unless-none true = refl
-unless-none false = refl
 
 -- begin leaves one machine, marked, and blanks all
 pub begin-opens : (t : Tree) (r : Rows) (m n : ℕ) → editedRows t (begin m n) r ≡ openRows (edited t (begin m n))

@@ -7,7 +7,7 @@ ghost use lib.Dec.{eqb};
 ghost use lib.ListN.{length, set};
 ghost use Rattle.definitions.specs.Limits.{machines, nodes, commands, sheetLength};
 ghost use Rattle.definitions.specs.Book.{word, number};
-ghost use Rattle.definitions.specs.Sheet.{Rows, machineRowLength, nodeRowLength, costWord, costOf, nodeRow, machineRowWord, rowsOf};
+ghost use Rattle.definitions.specs.Sheet.{machineRowLength, nodeRowLength, costWord, costOf, nodeRow, machineRowWord, rowsOf};
 ghost use Rattle.sheet.specs.Fields.{Mark, Leaves, withMark, withExit, withLast, withCost, withBefore, withBy, withNodeRow};
 ghost use Rattle.sheet.specs.Fields.{withBlankMachine, withBlankNode};
 

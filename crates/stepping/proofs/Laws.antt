@@ -1,15 +1,16 @@
--- The climb and entering, one node at a time, as the loops go. Leaving a machine costs nothing. Assumes nothing.
+-- The climb, the level and entering, one node at a time, as the loops go. Leaving a machine costs nothing. Assumes nothing.
 use mathlib.Core.Path.{_≡_, sym, _∙_, ap}
 use mathlib.Core.Option.{none, some}
 use mathlib.Core.List.{List}
-use Prim.Native.Nat.{ℕ, _-_, _/_, _%_, _<_}
+use Prim.Native.Nat.{ℕ, suc, _-_, _/_, _%_, _<_}
 use native.Mathlib.Nat.{zero-add}
 use native.Mathlib.Omega.{arith}
+use lib.ListN.{length}
 use Rattle.definitions.specs.Limits.{machines, nodes, costs, levels, absent, blank}
 use Rattle.definitions.specs.Tree.{Tree, Transition, Sound, level}
 use Rattle.definitions.specs.Step.{counting, leaving, Climb, found, passed, past, climb, enter, follow, stepIn, step}
 use Rattle.definitions.specs.Book.{word, transitionWord, treeOf, WellFormed}
-use Rattle.definitions.proofs.Path.{Deep, at-root, under, deep, root-holder, climb-own, climb-top, climb-on, climb-found, enter-plain, enter-down, level-on, level-bound}
+use Rattle.definitions.proofs.Path.{Deep, at-root, under, deep, root-holder, path-root, climb-own, climb-top, climb-on, climb-found, enter-plain, enter-down, level-on, level-bound}
 use Rattle.definitions.proofs.Words.{present-word, owner-range, below-range, no-holder, no-below, no-transition, some-transition}
 use Rattle.stepping.specs.Meaning.{Used}
 
@@ -89,6 +90,21 @@ module _ (ws : List ℕ) (w : WellFormed ws) (n : ℕ) (used : Used (treeOf ws) 
         same = climb-up (treeOf ws) (w .sound) x own (no-transition (treeOf ws) (w .sound) n x ea free) hold;
         higher = omega (arith, level-on (w .sound) own hold);
       }
+
+  -- ---- the level
+
+  -- the level of a node of the root, and of another
+  pub level-top : {o h : ℕ} → o ≡ word (treeOf ws .owner n) → h ≡ word (treeOf ws .holder o) → h ≡ absent
+      → level (treeOf ws) n ≡ 1
+  unfolding level
+  level-top {o} eo eh top =
+      ap length (path-root (treeOf ws) (owner-told eo .0) (no-holder (treeOf ws) (w .sound) o eh top))
+
+  pub level-up : {o h : ℕ} → o ≡ word (treeOf ws .owner n) → h ≡ word (treeOf ws .holder o) → (h ≡ absent → ⊥)
+      → Used (treeOf ws) h × (level (treeOf ws) n ≡ suc (level (treeOf ws) h))
+  level-up {o} {h} eo eh held =
+      let hold = present-word (treeOf ws .holder o) eh held in
+      (w .sound .holder-used o h hold, level-on (w .sound) (owner-told eo .0) hold)
 
   -- ---- entering
 

@@ -1,9 +1,9 @@
 // One command at a state of a well-formed book (document 01, "The tree and its step").
 ghost use mathlib.Core.Path.{_≡_};
 ghost use mathlib.Core.Option.{some};
-ghost use Prim.Native.Nat.{ℕ, _<_};
+ghost use Prim.Native.Nat.{_<_};
 ghost use Rattle.definitions.specs.Limits.{commands};
-ghost use Rattle.definitions.specs.Tree.{Tree};
+ghost use Rattle.definitions.specs.Tree.{level};
 ghost use Rattle.definitions.specs.Book.{treeOf, WellFormed};
 ghost use Rattle.definitions.specs.Step.{enter, climb, step};
 ghost use Rattle.definitions.specs.Calls.{StepSays};
@@ -62,6 +62,23 @@ pub fn enter(book: &[u32], n: u32) -> u32
             return v;
         }
         v = book::start(book, b);
+    }
+}
+
+// The level of node n's machine.
+pub fn level(book: &[u32], n: u32) -> u32
+    requires { ⌜ WellFormed (now book) × Used (treeOf (now book)) n ⌝ }
+    ensures { λ r. ⌜ r ≡ level (treeOf (now (book .entry))) n ⌝ }
+{
+    let mut at = n;
+    let mut count: u32 = 1;
+    loop {
+        let h = book::holder(book, book::owner(book, at));
+        if h == book::ABSENT {
+            return count;
+        }
+        at = h;
+        count += 1;
     }
 }
 

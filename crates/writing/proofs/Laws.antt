@@ -1,12 +1,12 @@
--- The stream, piece by piece, as the loops store it: bytes stored in a row, pieces one after the other, the level of a node, and what is
+-- The stream, piece by piece, as the loops store it: bytes stored in a row, pieces one after the other, the levels of the nodes in use, and what is
 -- written of one node, from the words of a book. Assumes nothing.
-use mathlib.Core.Path.{_≡_, refl, sym, _∙_, ap}
+use mathlib.Core.Path.{_≡_, refl, sym, _∙_, ap, subst}
 use mathlib.Core.Logic.{⊎-elim}
 use mathlib.Core.Bool.{Bool, true, false, cond, not, _&&_}
 use mathlib.Core.Option.{Option, none, some}
 use mathlib.Core.List.{List, [], _∷_, _++_, append-nil, append-assoc}
 use Prim.Native.Nat.{ℕ, zero, suc, _+_, _*_, _≤_, _<_}
-use native.Mathlib.Nat.{suc-mul, add-zero}
+use native.Mathlib.Nat.{suc-mul, add-zero, mul-le-mul-right}
 use native.Mathlib.Numerals.{add-one}
 use native.Mathlib.Omega.{arith}
 use lib.Dec.{eqb}
@@ -14,14 +14,14 @@ use lib.ListN.{length, getD, set, drop, length-append, length-set}
 use lib.Seq.{sets, set-out, length-sets, sets-eq, getD-set-same, getD-set-other}
 use borrow.Author.Tests.{eq-eqb, ne-eqb}
 use Rattle.definitions.specs.Basics.{option, joined}
-use Rattle.definitions.specs.Limits.{machines, nodes, commands, levels, absent}
-use Rattle.definitions.specs.Tree.{Tree, Transition, Sound, above, pathF, path, level}
+use Rattle.definitions.specs.Limits.{machines, nodes, commands, levels}
+use Rattle.definitions.specs.Tree.{Tree, Transition, Sound, level}
 use Rattle.definitions.specs.Edit.{isStart}
 use Rattle.definitions.specs.Book.{word}
 use Rattle.definitions.specs.Write.{pair, writtenBegin, writtenAdd, writtenRefine, writtenArrow, written}
-use Rattle.definitions.proofs.Options.{bind-some, equal-or-not}
-use Rattle.definitions.proofs.Path.{level-on}
-use Rattle.definitions.proofs.Words.{present-word, absent-word, start-range, holder-range}
+use Rattle.definitions.proofs.Options.{equal-or-not}
+use Rattle.definitions.proofs.Words.{start-range}
+use Rattle.stepping.specs.Meaning.{Used}
 use Rattle.writing.specs.Meaning.{Stored, Levels, writtenLevel, writtenArrows}
 
 -- ---- what may be absent, as a list
@@ -98,120 +98,31 @@ joined-short w zero f h = omega arith
 joined-short w (suc k) f h =
     rw length-append (omega (arith, h 0, joined-short w k (λ i. f (suc i)) (λ i. h (suc i)), suc-mul k w))
 
--- no piece yet
-pub stored-start : (f : ℕ → List ℕ) (out : List ℕ) (at : ℕ) → Stored out at (joined 0 f) at out
-unfolding joined
-stored-start f out at = stored-none out at refl
+-- ---- the levels of the nodes in use
 
--- one piece more
-pub stored-more : (f : ℕ → List ℕ) (i : ℕ) {out : List ℕ} {at p : ℕ} {mid : List ℕ} → Stored out at (joined i f) p mid
-    → {q : ℕ} {out′ : List ℕ} → Stored mid p (f i) q out′ → Stored out at (joined (i + 1) f) q out′
-stored-more f i before step = rw (add-one, joined-suc i f) (stored-then before step)
-
--- ---- the level of a node
-
--- no node holds the machine of a node that is not in use
-pub above-unused : (t : Tree) (n : ℕ) → t .owner n ≡ none → absent ≡ word (above t n)
-unfolding above word
-above-unused t n e = rw e
-
--- the node that holds a node's machine is its machine's holder
-pub above-owned : (t : Tree) {n m : ℕ} → t .owner n ≡ some m → t .holder m ≡ above t n
-unfolding above
-above-owned t e = rw e
-
--- what holds a node's machine is a node
-above-range : {t : Tree} → Sound t → (n : ℕ) {h : ℕ} → above t n ≡ some h → h < nodes
-unfolding above
-above-range {t} s n {h} e =
-    let (m, own, hold) = bind-some (t .owner n) (t .holder) e in
-    holder-range t s m h hold .1
-
--- the level of a node whose machine nothing holds
-level-top : (t : Tree) (n : ℕ) → above t n ≡ none → level t n ≡ 1
-unfolding level path pathF
-level-top t n e = rw e
-
--- the level of another node
-level-up : {t : Tree} → Sound t → (n : ℕ) {h : ℕ} → above t n ≡ some h → level t n ≡ suc (level t h)
-unfolding above
-level-up {t} s n e =
-    let (m, own, hold) = bind-some (t .owner n) (t .holder) e in
-    level-on s own hold
-
--- it is at least 1
-level-first : (t : Tree) (n : ℕ) → 0 < level t n
-unfolding level path pathF
-level-first t n = omega arith
-
--- a path is no longer than its fuel
-path-small : (k : ℕ) (t : Tree) (n : ℕ) → length (pathF k t n) ≤ k
-unfolding pathF
-path-small zero t n = omega arith
-path-small (suc k) t n = omega (arith, option-short k (λ h. pathF k t h) (above t n) (λ h. path-small k t h))
-
--- a level is at most 8
-level-small : (t : Tree) (n : ℕ) → level t n ≤ levels
-unfolding level path
-level-small t n = path-small levels t n
-
--- The loop's invariant: so many nodes are passed on the way up from n, and h is the word for the next.
-pub record Counted (t : Tree) (n h count : ℕ) : Type 0 where
-  pub node : ℕ
-  pub next : h ≡ word (above t node)
-  pub same : count + level t node ≡ suc (level t n)
-
--- n itself is passed
-pub counted-first : (t : Tree) (n : ℕ) {h : ℕ} → h ≡ word (above t n) → Counted t n h 1
-counted-first t n e = record { node = n; next = e; same = omega arith }
-
-module _ {t : Tree} (s : Sound t) {n h count : ℕ} (c : Counted t n h count) where
-  -- none is left
-  pub counted-all : h ≡ absent → count ≡ level t n
-  counted-all top =
-      let free = absent-word (above t (c .node)) (λ k e. omega (arith, above-range s (c .node) e)) (c .next) top in
-      omega (arith, level-top t (c .node) free, c .same)
-
-  module _ (held : h ≡ absent → ⊥) where
-    -- the next holds the machine of the last
-    up : above t (c .node) ≡ some h
-    up = present-word (above t (c .node)) (c .next) held
-
-    -- the next is a node
-    pub counted-range : h < nodes
-    counted-range = above-range s (c .node) up
-
-    -- not all levels are passed
-    pub counted-below : count < levels
-    counted-below = omega (arith, c .same, level-up s (c .node) up, level-first t h, level-small t n)
-
-    -- the next is passed
-    pub counted-more : {g : ℕ} → g ≡ word (above t h) → Counted t n g (count + 1)
-    counted-more e = record { node = h; next = e; same = omega (arith, c .same, level-up s (c .node) up) }
-
--- the list of levels, filled from the front: no level yet
+-- the list, filled from the front: no level yet
 pub levels-none : (t : Tree) (list : List ℕ) → length list ≡ nodes → Levels t 0 list
-levels-none t list e = record { length = e; at = λ n h. absurd (omega arith) }
+levels-none t list e = record { length = e; at = λ n h used. absurd (omega arith) }
 
 -- every level
 pub levels-all : {t : Tree} (k : ℕ) {list : List ℕ} → Levels t k list → nodes ≤ k → Levels t nodes list
-levels-all k b all = record { length = b .length; at = λ n h. b .at n (omega arith) }
+levels-all k b all = record { length = b .length; at = λ n h used. b .at n (omega arith) used }
 
 -- one level more
-pub levels-more : {t : Tree} {k : ℕ} {list : List ℕ} → Levels t k list → k < nodes → {l : ℕ} → l ≡ level t k
+pub levels-more : {t : Tree} {k : ℕ} {list : List ℕ} → Levels t k list → k < nodes → {l : ℕ} → (Used t k → l ≡ level t k)
     → Levels t (k + 1) (set list k l)
 levels-more {t} {k} {list} b small {l} e =
     record {
       length = length-set list k l ∙ b .length;
       at =
-          λ n under.
+          λ n under used.
           ⊎-elim
           (λ same.
           ap (λ (j : ℕ). getD (set list k l) j 0) same
           ∙ getD-set-same list k l 0 (omega (arith, b .length))
-          ∙ e
+          ∙ e (subst (Used t) same used)
           ∙ ap (level t) (sym same))
-          (λ other. getD-set-other list k n l 0 other ∙ b .at n (omega (arith, other)))
+          (λ other. getD-set-other list k n l 0 other ∙ b .at n (omega (arith, other)) used)
           (equal-or-not n k);
     }
 
@@ -317,16 +228,32 @@ level-pieces t l = rw add-one
 
 -- ---- the loops over pieces
 
-module _ (f : ℕ → List ℕ) (i : ℕ) {out : List ℕ} {at p : ℕ} {mid : List ℕ} (st : Stored out at (joined i f) p mid) where
-  -- pieces of at most w bytes lead at most so far
-  pub stored-room : (w : ℕ) → ((j : ℕ) → length (f j) ≤ w) → p ≤ at + i * w
-  stored-room w short = omega (arith, st .place, joined-short w i f short)
+-- The loops' invariant: of k pieces the first i are stored.
+pub record Pieces (f : ℕ → List ℕ) (k : ℕ) (out : List ℕ) (at : ℕ) (mid : List ℕ) (p i : ℕ) : Type 0 where
+  pub passed : i ≤ k
+  pub stored : Stored out at (joined i f) p mid
 
+-- no piece yet
+pub pieces-none : (f : ℕ → List ℕ) (k : ℕ) (out : List ℕ) (at : ℕ) → Pieces f k out at out at 0
+unfolding joined
+pieces-none f k out at = record { passed = omega arith; stored = stored-none out at refl }
+
+module _ {f : ℕ → List ℕ} {k : ℕ} {out : List ℕ} {at : ℕ} {mid : List ℕ} {p i : ℕ} (h : Pieces f k out at mid p i) where
   -- the last piece is stored
-  pub stored-all : (k : ℕ) → i ≤ k → k ≤ i → Stored out at (joined k f) p mid
-  stored-all k low high =
+  pub pieces-all : k ≤ i → Stored out at (joined k f) p mid
+  pieces-all all =
       let same : i ≡ k = omega arith in
-      rw same at st
+      rw same at (h .stored)
+
+  module _ (more : i < k) where
+    -- one piece more
+    pub pieces-more : {q : ℕ} {out′ : List ℕ} → Stored mid p (f i) q out′ → Pieces f k out at out′ q (i + 1)
+    pieces-more next = record { passed = omega arith; stored = rw (add-one, joined-suc i f) (stored-then (h .stored) next) }
+
+    -- it has room where there is room for k pieces of w bytes, and none has more
+    pub pieces-room : (w : ℕ) → ((j : ℕ) → length (f j) ≤ w) → (room : ℕ) → at + k * w < room → p + w < room
+    pieces-room w short room fits =
+        omega (arith, h .stored .place, joined-short w i f short, suc-mul i w, mul-le-mul-right {m = suc i} {n = k} w more)
 
 -- ---- the words of machines in use
 
@@ -334,6 +261,10 @@ module _ (f : ℕ → List ℕ) (i : ℕ) {out : List ℕ} {at p : ℕ} {mid : L
 told : (o : Option ℕ) {a w : ℕ} → o ≡ some a → w ≡ word o → o ≡ some w
 unfolding word
 told o {a} {w} there e = there ∙ ap some (sym (e ∙ ap word there))
+
+-- a node that holds a machine is in use
+pub refined-used : {t : Tree} → Sound t → {n m : ℕ} → t .below n ≡ some m → Used t n
+refined-used s {n} {m} bel = s .holder-used m n (s .below-held n m bel)
 
 module _ {t : Tree} (s : Sound t) {n m w : ℕ} where
   -- the start node of the machine that a node belongs to

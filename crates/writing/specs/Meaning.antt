@@ -1,4 +1,4 @@
--- What the functions of this crate leave: bytes stored in a row, and the level of every node. The parts of `written`, by their names. What an
+-- What the functions of this crate leave: bytes stored in a row, and the level of every node in use. The parts of `written`, by their names. What an
 -- answer means.
 use mathlib.Core.Path.{_≡_}
 use mathlib.Core.List.{List, [], _∷_, _++_}
@@ -10,6 +10,7 @@ use Rattle.definitions.specs.Limits.{nodes, commands}
 use Rattle.definitions.specs.Tree.{Tree, level}
 use Rattle.definitions.specs.Answer.{Answer, gives, refuses}
 use Rattle.definitions.specs.Write.{writtenAdd, writtenRefine, writtenArrow}
+use Rattle.stepping.specs.Meaning.{Used}
 use Rattle.writing.specs.declared.WriteAnswer.{WriteAnswer}
 use Rattle.writing.specs.declared.WriteAnswer.the-variants.{Written, Refused}
 
@@ -18,10 +19,10 @@ pub record Stored (out : List ℕ) (at : ℕ) (bytes : List ℕ) (end : ℕ) (ou
   pub place : end ≡ at + length bytes
   pub list : out′ ≡ sets out at bytes
 
--- a list with room for every node that holds the levels of the first k
+-- a list with room for every node that holds the levels of the first k, as far as they are in use
 pub record Levels (t : Tree) (k : ℕ) (list : List ℕ) : Type 0 where
   pub length : length list ≡ nodes
-  pub at : (n : ℕ) → n < k → getD list n 0 ≡ level t n
+  pub at : (n : ℕ) → n < k → Used t n → getD list n 0 ≡ level t n
 
 -- what `written` has for one level (the root's is l = 0), and for one node's transitions
 abbrev pub writtenLevel : Tree → ℕ → List ℕ

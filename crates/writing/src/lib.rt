@@ -5,10 +5,11 @@ ghost use Prim.Native.Nat.{_+_, _*_, _/_, _%_, _^_, _≤_, _<_};
 ghost use lib.ListN.{length, drop};
 ghost use Rattle.definitions.specs.Basics.{joined};
 ghost use Rattle.definitions.specs.Limits.{machines, nodes, commands, levels};
-ghost use Rattle.definitions.specs.Tree.{above, level};
-ghost use Rattle.definitions.specs.Book.{word, treeOf, WellFormed};
+ghost use Rattle.definitions.specs.Tree.{level};
+ghost use Rattle.definitions.specs.Book.{treeOf, WellFormed};
 ghost use Rattle.definitions.specs.Write.{pair, writtenAdd, writtenRefine, writtenArrow, written, WriteSays};
 ghost use Rattle.wellformed.specs.Decides.{Decides};
+ghost use Rattle.stepping.specs.Meaning.{Used};
 ghost use Rattle.writing.specs.Meaning.{Stored, Levels, writtenLevel, writtenArrows, answerOf};
 
 // What Write answers: the length of the stream, or the number of a refusal.
@@ -23,33 +24,18 @@ const LEVELS: u32 = 8;
 // The most bytes that a stream of Write has.
 const LONGEST: usize = 33918;
 
-// The node that holds node n's machine.
-fn above(book: &[u32], n: u32) -> u32
+// The level of node n's machine, if n is in use.
+fn node_level(book: &[u32], n: u32) -> u32
     requires { ⌜ WellFormed (now book) × (n < nodes) ⌝ }
-    ensures { λ r. ⌜ r ≡ word (above (treeOf (now (book .entry))) n) ⌝ }
+    ensures { λ r. ⌜ (Used (treeOf (now (book .entry))) n → r ≡ level (treeOf (now (book .entry))) n) ⌝ }
 {
-    let m = book::owner(book, n);
-    if m == book::ABSENT {
-        return book::ABSENT;
+    if book::owner(book, n) == book::ABSENT {
+        return 0;
     }
-    book::holder(book, m)
+    stepping::level(book, n)
 }
 
-// The level of node n's machine: the number of nodes from n up to the root's.
-fn level(book: &[u32], n: u32) -> u32
-    requires { ⌜ WellFormed (now book) × (n < nodes) ⌝ }
-    ensures { λ r. ⌜ r ≡ level (treeOf (now (book .entry))) n ⌝ }
-{
-    let mut h = above(book, n);
-    let mut count = 1u32;
-    while h != book::ABSENT {
-        h = above(book, h);
-        count += 1;
-    }
-    count
-}
-
-// The level of every node.
+// The level of every node that is in use.
 fn node_levels(book: &[u32]) -> [u32; 256]
     requires { ⌜ WellFormed (now book) ⌝ }
     ensures { λ r. ⌜ Levels (treeOf (now (book .entry))) nodes r ⌝ }
@@ -57,7 +43,7 @@ fn node_levels(book: &[u32]) -> [u32; 256]
     let mut list = [0u32; 256];
     let mut n = 0u32;
     while n < book::NODES {
-        list[n as usize] = level(book, n);
+        list[n as usize] = node_level(book, n);
         n += 1;
     }
     list
@@ -84,22 +70,12 @@ fn put_pair(out: &mut [u8], at: usize, n: u32) -> usize
     put_byte(out, low, n % 256)
 }
 
-// The same for begin: machine, start node.
-fn put_begin(out: &mut [u8], at: usize, m: u32, s: u32) -> usize
-    requires { ⌜ (at + 4 < 2 ^ 64) × (m < machines) × (s < nodes) ⌝ }
-    ensures { λ r. ⌜ Stored (now (out .entry)) at (0x10 ∷ m ∷ pair s) r (now (out .exit)) ⌝ }
+// The same for begin and for add: opcode, machine, node.
+fn put_place(out: &mut [u8], at: usize, op: u32, m: u32, n: u32) -> usize
+    requires { ⌜ (at + 4 < 2 ^ 64) × (op < 256) × (m < machines) × (n < nodes) ⌝ }
+    ensures { λ r. ⌜ Stored (now (out .entry)) at (op ∷ m ∷ pair n) r (now (out .exit)) ⌝ }
 {
-    let machine = put_byte(out, at, 0x10);
-    let start = put_byte(out, machine, m);
-    put_pair(out, start, s)
-}
-
-// The same for add: machine, node.
-fn put_add(out: &mut [u8], at: usize, m: u32, n: u32) -> usize
-    requires { ⌜ (at + 4 < 2 ^ 64) × (m < machines) × (n < nodes) ⌝ }
-    ensures { λ r. ⌜ Stored (now (out .entry)) at (0x11 ∷ m ∷ pair n) r (now (out .exit)) ⌝ }
-{
-    let machine = put_byte(out, at, 0x11);
+    let machine = put_byte(out, at, op);
     let node = put_byte(out, machine, m);
     put_pair(out, node, n)
 }
@@ -144,7 +120,7 @@ fn node_add(book: &[u32], list: &[u32; 256], l: u32, n: u32, out: &mut [u8], at:
     if s == n {
         return at;
     }
-    put_add(out, at, m, n)
+    put_place(out, at, 0x11, m, n)
 }
 
 // Refine, if n is refined and at level l.
@@ -255,7 +231,7 @@ fn put_stream(book: &[u32], out: &mut [u8]) -> usize
 {
     let m = book::root(book);
     let s = book::start(book, m);
-    let p = put_begin(out, 0, m, s);
+    let p = put_place(out, 0, 0x10, m, s);
     let q = all_levels(book, out, p);
     all_arrows(book, out, q)
 }

@@ -11,9 +11,6 @@ use Rattle.truesheet.proofs.Machines.{is-stale, is-filled}
 use Rattle.planning.proofs.Laws.{FreshBelow, all-fresh}
 use Rattle.planning.proofs.any_stale.Statement.{statement}
 use Rattle.planning.proofs.any_stale.Tie as tie
-use Rattle.planning.proofs.any_stale.Reads as reads
-use Rattle.planning.proofs.any_stale.Lts as lts
-use Rattle.sheet.proofs.stale.Reads as stale-reads
 
 abbrev Inv-loop : tie.InvT-loop
 Inv-loop sheet m₀ m = (m ≤ machines) × FreshBelow sheet m

@@ -7,9 +7,6 @@ use Rattle.definitions.specs.Book.{treeOf}
 use Rattle.planning.proofs.Laws.{Counted, counted-none, counted-more, counted-all}
 use Rattle.planning.proofs.longest_plan.Statement.{statement}
 use Rattle.planning.proofs.longest_plan.Tie as tie
-use Rattle.planning.proofs.longest_plan.Reads as reads
-use Rattle.planning.proofs.longest_plan.Lts as lts
-use Rattle.planning.proofs.state_at.Reads as state-at-reads
 
 abbrev Inv-loop : tie.InvT-loop
 Inv-loop book count₀ n₀ count n = Counted (treeOf book) n count

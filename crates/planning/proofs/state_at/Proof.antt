@@ -3,10 +3,6 @@ use Rattle.planning.proofs.Laws.{unused-state, refined-state, plain-sta
 use borrow.Author.Needs.{needs}
 use Rattle.planning.proofs.state_at.Statement.{statement}
 use Rattle.planning.proofs.state_at.Tie as tie
-use Rattle.planning.proofs.state_at.Reads as reads
-use Rattle.planning.proofs.state_at.Lts as lts
-use Rattle.book.proofs.below.Reads as below-reads
-use Rattle.book.proofs.owner.Reads as owner-reads
 
 -- src/lib.rt:51:8
 owner-requires : tie.Need-owner-requires

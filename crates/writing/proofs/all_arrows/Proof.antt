@@ -1,17 +1,16 @@
 -- `writing::all_arrows` meets its contract: what is stored so far is what is written of the nodes passed. Assumes nothing.
-use Prim.Native.Nat.{_-_, _≤_}
+use Prim.Native.Nat.{_-_, _^_}
 use native.Mathlib.Omega.{arith}
 use denote.Ref.{now}
-use Rattle.definitions.specs.Basics.{joined}
 use Rattle.definitions.specs.Limits.{nodes}
 use Rattle.definitions.specs.Book.{treeOf}
-use Rattle.writing.specs.Meaning.{Stored, writtenArrows}
-use Rattle.writing.proofs.Laws.{stored-start, stored-more, stored-length, stored-room, stored-all, arrows-short}
+use Rattle.writing.specs.Meaning.{writtenArrows}
+use Rattle.writing.proofs.Laws.{stored-length, arrows-short, Pieces, pieces-none, pieces-room, pieces-more, pieces-all}
 use Rattle.writing.proofs.all_arrows.Statement.{statement}
 use Rattle.writing.proofs.all_arrows.Tie as tie
 
 abbrev Inv-loop : tie.InvT-loop
-Inv-loop book out₀ at p₀ node₀ out p node = (node ≤ nodes) × Stored out₀ at (joined node (writtenArrows (treeOf book))) p out
+Inv-loop book out₀ at p₀ node₀ out p node = Pieces (writtenArrows (treeOf book)) nodes out₀ at out p node
 
 abbrev μ-loop : tie.MeasureT-loop
 μ-loop book out₀ at p₀ node₀ out p node = nodes - node
@@ -19,16 +18,14 @@ abbrev μ-loop : tie.MeasureT-loop
 loop-holds : tie.Need-loop-holds Inv-loop μ-loop
 loop-holds c =
     let e = c .before .before in
-    let t = treeOf (now (e .args .book)) in
-    (omega arith, stored-start (writtenArrows t) (now (e .args .out)) (e .args .at))
+    pieces-none (writtenArrows (treeOf (now (e .args .book)))) nodes (now (e .args .out)) (e .args .at)
 
 node-arrows-requires : tie.Need-node-arrows-requires Inv-loop μ-loop
 node-arrows-requires c κs =
     let l = c .before .before in
     let e = l .before .before .before in
-    let t = treeOf (now (e .args .book)) in
-    let room = stored-room (writtenArrows t) (l .loop .node) (l .loop .inv .1) 128 (arrows-short t) in
-    (e .pre .0, c .before .loop-test .taken, omega (arith, room, e .pre .1, c .before .loop-test .taken))
+    let more = c .before .loop-test .taken in
+    (e .pre .0, more, pieces-room (l .loop .inv) more 128 (arrows-short (treeOf (now (e .args .book)))) (2 ^ 64) (e .pre .1))
 
 add-node : tie.Need-add-node Inv-loop μ-loop
 add-node c = omega arith
@@ -39,19 +36,13 @@ loop-less c = omega arith
 loop-again : tie.Need-loop-again Inv-loop μ-loop
 loop-again c =
     let l = c .before .before .before .before .before in
-    let e = l .before .before .before in
-    let t = treeOf (now (e .args .book)) in
-    (omega arith, stored-more (writtenArrows t) (l .loop .node) (l .loop .inv .1) (c .before .before .node-arrows .ensures))
+    pieces-more (l .loop .inv) (c .before .before .before .before .loop-test .taken) (c .before .before .node-arrows .ensures)
 
 same-length : tie.Need-same-length Inv-loop μ-loop
-same-length c = stored-length (c .before .loop .inv .1)
+same-length c = stored-length (c .before .loop .inv .stored)
 
 returns : tie.Need-returns Inv-loop μ-loop
-returns c =
-    let l = c .before in
-    let e = l .before .before .before in
-    let t = treeOf (now (e .args .book)) in
-    stored-all (writtenArrows t) (l .loop .node) (l .loop .inv .1) nodes (l .loop .inv .0) (c .loop-test .left)
+returns c = pieces-all (c .before .loop .inv) (c .loop-test .left)
 
 pub all-arrows-spec : {M : Type 1} → statement M
 all-arrows-spec =

@@ -1,6 +1,7 @@
 -- `writing::node_add` meets its contract: a node in use, at the level, and not a start node is added. Assumes nothing.
 use borrow.Author.Needs.{needs}
 use mathlib.Core.Path.{sym, _∙_}
+use native.Mathlib.Omega.{arith}
 use denote.Ref.{now}
 use Rattle.definitions.specs.Book.{treeOf}
 use Rattle.definitions.proofs.Words.{present-word, owner-range, no-owner}
@@ -26,10 +27,12 @@ element-copy-out-here c = search needs
 
 returns-2 : tie.Need-returns-2
 returns-2 c =
-    let e = c .before .before .before .before .before .before in
+    let o = c .before .before in
+    let e = o .before .before .before .before in
     let t = treeOf (now (e .args .book)) in
+    let own = present-word (t .owner (e .args .n)) (o .before .owner .ensures) (o .if1 .left) in
     stored-none (now (e .args .out)) (e .args .at)
-    (add-other t (e .args .l) (e .args .n) (λ same. c .if2 .taken (e .pre .1 .at (e .args .n) (e .pre .2) ∙ same)))
+    (add-other t (e .args .l) (e .args .n) (λ same. c .if2 .taken (e .pre .1 .at (e .args .n) (e .pre .2) (o .before .owner .result, own) ∙ same)))
 
 start-requires : tie.Need-start-requires
 start-requires c κs =
@@ -47,16 +50,16 @@ returns-3 c =
     let t = treeOf (now (e .args .book)) in
     let own = present-word (t .owner (e .args .n)) (o .before .owner .ensures) (o .if1 .left) in
     let st = start-of-owner (e .pre .0 .sound) own (c .before .start .ensures) in
-    let here = sym (e .pre .1 .at (e .args .n) (e .pre .2)) ∙ h .if2 .left in
+    let here = sym (e .pre .1 .at (e .args .n) (e .pre .2) (o .before .owner .result, own)) ∙ h .if2 .left in
     stored-none (now (e .args .out)) (e .args .at) (add-start t (e .args .l) (e .args .n) own st here (c .if3 .taken))
 
-put-add-requires : tie.Need-put-add-requires
-put-add-requires c κs =
+put-place-requires : tie.Need-put-place-requires
+put-place-requires c κs =
     let o = c .before .before .before .before .before in
     let e = o .before .before .before .before in
     let t = treeOf (now (e .args .book)) in
     let own = present-word (t .owner (e .args .n)) (o .before .owner .ensures) (o .if1 .left) in
-    (e .pre .3, owner-range t (e .pre .0 .sound) (e .args .n) (o .before .owner .result) own .1, e .pre .2)
+    (e .pre .3, omega arith, owner-range t (e .pre .0 .sound) (e .args .n) (o .before .owner .result) own .1, e .pre .2)
 
 same-length : tie.Need-same-length
 same-length c = search needs
@@ -71,8 +74,8 @@ returns-4 c =
     let t = treeOf (now (e .args .book)) in
     let own = present-word (t .owner (e .args .n)) (o .before .owner .ensures) (o .if1 .left) in
     let st = start-of-owner (e .pre .0 .sound) own (d .before .start .ensures) in
-    let here = sym (e .pre .1 .at (e .args .n) (e .pre .2)) ∙ h .if2 .left in
-    stored-is (a .put-add .ensures) (add-node t (e .args .l) (e .args .n) own st here (d .if3 .left))
+    let here = sym (e .pre .1 .at (e .args .n) (e .pre .2) (o .before .owner .result, own)) ∙ h .if2 .left in
+    stored-is (a .put-place .ensures) (add-node t (e .args .l) (e .args .n) own st here (d .if3 .left))
 
 pub node-add-spec : {M : Type 1} → statement M
 node-add-spec =
@@ -85,6 +88,6 @@ node-add-spec =
     returns-2
     start-requires
     returns-3
-    put-add-requires
+    put-place-requires
     same-length
     returns-4)

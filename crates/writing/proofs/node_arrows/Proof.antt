@@ -1,18 +1,16 @@
 -- `writing::node_arrows` meets its contract: what is stored so far is what is written of the commands passed. Assumes nothing.
-use Prim.Native.Nat.{_-_, _≤_}
+use Prim.Native.Nat.{_-_, _^_}
 use native.Mathlib.Omega.{arith}
 use denote.Ref.{now}
-use Rattle.definitions.specs.Basics.{joined}
 use Rattle.definitions.specs.Limits.{commands}
 use Rattle.definitions.specs.Book.{treeOf}
 use Rattle.definitions.specs.Write.{writtenArrow}
-use Rattle.writing.specs.Meaning.{Stored}
-use Rattle.writing.proofs.Laws.{stored-start, stored-more, stored-length, stored-room, stored-all, arrow-short}
+use Rattle.writing.proofs.Laws.{stored-length, arrow-short, Pieces, pieces-none, pieces-room, pieces-more, pieces-all}
 use Rattle.writing.proofs.node_arrows.Statement.{statement}
 use Rattle.writing.proofs.node_arrows.Tie as tie
 
 abbrev Inv-loop : tie.InvT-loop
-Inv-loop book n out₀ at p₀ x₀ out p x = (x ≤ commands) × Stored out₀ at (joined x (writtenArrow (treeOf book) n)) p out
+Inv-loop book n out₀ at p₀ x₀ out p x = Pieces (writtenArrow (treeOf book) n) commands out₀ at out p x
 
 abbrev μ-loop : tie.MeasureT-loop
 μ-loop book n out₀ at p₀ x₀ out p x = commands - x
@@ -20,16 +18,14 @@ abbrev μ-loop : tie.MeasureT-loop
 loop-holds : tie.Need-loop-holds Inv-loop μ-loop
 loop-holds c =
     let e = c .before .before in
-    let t = treeOf (now (e .args .book)) in
-    (omega arith, stored-start (writtenArrow t (e .args .n)) (now (e .args .out)) (e .args .at))
+    pieces-none (writtenArrow (treeOf (now (e .args .book))) (e .args .n)) commands (now (e .args .out)) (e .args .at)
 
 node-arrow-requires : tie.Need-node-arrow-requires Inv-loop μ-loop
 node-arrow-requires c κs =
     let l = c .before .before in
     let e = l .before .before .before in
-    let t = treeOf (now (e .args .book)) in
-    let room = stored-room (writtenArrow t (e .args .n)) (l .loop .x) (l .loop .inv .1) 8 (arrow-short t (e .args .n)) in
-    (e .pre .0, e .pre .1, c .before .loop-test .taken, omega (arith, room, e .pre .2, c .before .loop-test .taken))
+    let more = c .before .loop-test .taken in
+    (e .pre .0, e .pre .1, more, pieces-room (l .loop .inv) more 8 (arrow-short (treeOf (now (e .args .book))) (e .args .n)) (2 ^ 64) (e .pre .2))
 
 add-x : tie.Need-add-x Inv-loop μ-loop
 add-x c = omega arith
@@ -40,19 +36,13 @@ loop-less c = omega arith
 loop-again : tie.Need-loop-again Inv-loop μ-loop
 loop-again c =
     let l = c .before .before .before .before .before in
-    let e = l .before .before .before in
-    let t = treeOf (now (e .args .book)) in
-    (omega arith, stored-more (writtenArrow t (e .args .n)) (l .loop .x) (l .loop .inv .1) (c .before .before .node-arrow .ensures))
+    pieces-more (l .loop .inv) (c .before .before .before .before .loop-test .taken) (c .before .before .node-arrow .ensures)
 
 same-length : tie.Need-same-length Inv-loop μ-loop
-same-length c = stored-length (c .before .loop .inv .1)
+same-length c = stored-length (c .before .loop .inv .stored)
 
 returns : tie.Need-returns Inv-loop μ-loop
-returns c =
-    let l = c .before in
-    let e = l .before .before .before in
-    let t = treeOf (now (e .args .book)) in
-    stored-all (writtenArrow t (e .args .n)) (l .loop .x) (l .loop .inv .1) commands (l .loop .inv .0) (c .loop-test .left)
+returns c = pieces-all (c .before .loop .inv) (c .loop-test .left)
 
 pub node-arrows-spec : {M : Type 1} → statement M
 node-arrows-spec =

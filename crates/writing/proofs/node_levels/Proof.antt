@@ -19,8 +19,8 @@ abbrev μ-loop : tie.MeasureT-loop
 loop-holds : tie.Need-loop-holds Inv-loop μ-loop
 loop-holds c = (omega arith, levels-none (treeOf (now (c .before .args .book))) _ refl)
 
-level-requires : tie.Need-level-requires Inv-loop μ-loop
-level-requires c κs = (c .before .before .before .pre, c .loop-test .taken)
+node-level-requires : tie.Need-node-level-requires Inv-loop μ-loop
+node-level-requires c κs = (c .before .before .before .pre, c .loop-test .taken)
 
 cast-list : tie.Need-cast-list Inv-loop μ-loop
 cast-list c = omega arith
@@ -38,7 +38,7 @@ loop-less : tie.Need-loop-less Inv-loop μ-loop
 loop-less c = omega arith
 
 loop-again : tie.Need-loop-again Inv-loop μ-loop
-loop-again c = (omega arith, levels-more (c .before .before .loop .inv .1) (c .before .loop-test .taken) (c .level .ensures))
+loop-again c = (omega arith, levels-more (c .before .before .loop .inv .1) (c .before .loop-test .taken) (c .node-level .ensures))
 
 returns : tie.Need-returns Inv-loop μ-loop
 returns c = levels-all (c .before .loop .n) (c .before .loop .inv .1) (c .loop-test .left)
@@ -50,7 +50,7 @@ node-levels-spec =
     Inv-loop
     μ-loop
     loop-holds
-    level-requires
+    node-level-requires
     cast-list
     mul-list
     array-write-list

@@ -4,7 +4,7 @@ use mathlib.Core.Path.{sym, _∙_}
 use denote.Ref.{now}
 use Rattle.definitions.specs.Book.{treeOf}
 use Rattle.definitions.proofs.Words.{present-word, below-range, start-range, no-below}
-use Rattle.writing.proofs.Laws.{stored-none, stored-is, refine-plain, refine-other, refine-node, start-of-below}
+use Rattle.writing.proofs.Laws.{stored-none, stored-is, refine-plain, refine-other, refine-node, refined-used, start-of-below}
 use Rattle.writing.proofs.node_refine.Statement.{statement}
 use Rattle.writing.proofs.node_refine.Tie as tie
 
@@ -26,10 +26,12 @@ element-copy-out-here c = search needs
 
 returns-2 : tie.Need-returns-2
 returns-2 c =
-    let e = c .before .before .before .before .before .before in
+    let b = c .before .before in
+    let e = b .before .before .before .before in
     let t = treeOf (now (e .args .book)) in
+    let bel = present-word (t .below (e .args .n)) (b .before .below .ensures) (b .if1 .left) in
     stored-none (now (e .args .out)) (e .args .at)
-    (refine-other t (e .args .l) (e .args .n) (λ same. c .if2 .taken (e .pre .1 .at (e .args .n) (e .pre .2) ∙ same)))
+    (refine-other t (e .args .l) (e .args .n) (λ same. c .if2 .taken (e .pre .1 .at (e .args .n) (e .pre .2) (refined-used (e .pre .0 .sound) bel) ∙ same)))
 
 start-requires : tie.Need-start-requires
 start-requires c κs =
@@ -63,7 +65,7 @@ returns-3 c =
     let t = treeOf (now (e .args .book)) in
     let bel = present-word (t .below (e .args .n)) (b .before .below .ensures) (b .if1 .left) in
     let st = start-of-below (e .pre .0 .sound) bel (f .start .ensures) in
-    let here = sym (e .pre .1 .at (e .args .n) (e .pre .2)) ∙ h .if2 .left in
+    let here = sym (e .pre .1 .at (e .args .n) (e .pre .2) (refined-used (e .pre .0 .sound) bel)) ∙ h .if2 .left in
     stored-is (a .put-refine .ensures) (refine-node t (e .args .l) (e .args .n) bel st here)
 
 pub node-refine-spec : {M : Type 1} → statement M

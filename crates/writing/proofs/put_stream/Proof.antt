@@ -14,13 +14,13 @@ root-requires c κs = search needs
 start-requires : tie.Need-start-requires
 start-requires c κs = (c .before .before .before .pre .length, root-range (c .before .before .before .pre .sound) (c .root .ensures))
 
-put-begin-requires : tie.Need-put-begin-requires
-put-begin-requires c κs =
+put-place-requires : tie.Need-put-place-requires
+put-place-requires c κs =
     let r = c .before .before in
     let e = r .before .before .before in
     let t = treeOf (now (e .args .book)) in
     let st = root-start (e .pre .sound) (r .root .ensures) (c .before .start .ensures) in
-    (omega arith, root-range (e .pre .sound) (r .root .ensures), start-range t (e .pre .sound) (t .root) (c .before .start .result) st .1)
+    (omega arith, omega arith, root-range (e .pre .sound) (r .root .ensures), start-range t (e .pre .sound) (t .root) (c .before .start .result) st .1)
 
 all-levels-requires : tie.Need-all-levels-requires
 all-levels-requires c κs = search needs
@@ -30,7 +30,7 @@ all-arrows-requires c κs =
     let l = c .before .before .before in
     let b = l .before .before .before .before in
     let e = c .before .before .before .before .before .before .before .before .before .before .before .before .before in
-    (e .pre, omega (arith, b .put-begin .ensures .place, l .all-levels .ensures .place, levels-short (treeOf (now (e .args .book)))))
+    (e .pre, omega (arith, b .put-place .ensures .place, l .all-levels .ensures .place, levels-short (treeOf (now (e .args .book)))))
 
 same-length : tie.Need-same-length
 same-length c = search needs
@@ -44,7 +44,7 @@ returns c =
     let r = f .before in
     let e = r .before .before .before in
     let st = root-start (e .pre .sound) (r .root .ensures) (f .start .ensures) in
-    stored-is (stored-then (b .put-begin .ensures) (stored-then (l .all-levels .ensures) (a .all-arrows .ensures)))
+    stored-is (stored-then (b .put-place .ensures) (stored-then (l .all-levels .ensures) (a .all-arrows .ensures)))
     (whole-stream (treeOf (now (e .args .book))) (r .root .ensures) st)
 
 pub put-stream-spec : {M : Type 1} → statement M
@@ -53,7 +53,7 @@ put-stream-spec =
     (tie.spec
     root-requires
     start-requires
-    put-begin-requires
+    put-place-requires
     all-levels-requires
     all-arrows-requires
     same-length

@@ -1,4 +1,4 @@
--- `judging::level` meets its contract: what is counted and the level of the node in hand make up one more than the level. Assumes nothing.
+-- `stepping::level` meets its contract: what is counted and the level of the node in hand make up one more than the level. Assumes nothing.
 use mathlib.Core.Path.{_≡_}
 use Prim.Native.Nat.{suc, _+_}
 use native.Mathlib.Omega.{arith}
@@ -6,11 +6,10 @@ use denote.Ref.{now}
 use Rattle.definitions.specs.Tree.{level}
 use Rattle.definitions.specs.Book.{treeOf}
 use Rattle.definitions.proofs.Path.{level-bound}
 use Rattle.stepping.specs.Meaning.{Used}
-use Rattle.stepping.proofs.Laws.{used-range, owner-told}
-use Rattle.judging.proofs.Laws.{level-top, level-up}
-use Rattle.judging.proofs.level.Statement.{statement}
-use Rattle.judging.proofs.level.Tie as tie
+use Rattle.stepping.proofs.Laws.{used-range, owner-told, level-top, level-up}
+use Rattle.stepping.proofs.level.Statement.{statement}
+use Rattle.stepping.proofs.level.Tie as tie
 
 abbrev Inv-loop : tie.InvT-loop
 Inv-loop book n at₀ count₀ at count = Used (treeOf book) at × (count + level (treeOf book) at ≡ suc (level (treeOf book) n))
