@@ -1,17 +1,16 @@
 -- Everything is emptied, and one machine with one node is left. Assumes nothing.
 use mathlib.Core.Path.{_≡_, refl, ap, sym, _∙_}
-use mathlib.Core.Logic.{_⊎_, inl, ⊎-elim}
+use mathlib.Core.Logic.{⊎-elim}
 use mathlib.Core.Bool.{true}
 use mathlib.Core.List.{List}
-use Prim.Native.Nat.{ℕ, _+_, _*_, _<_}
+use Prim.Native.Nat.{ℕ, _<_}
 use native.Mathlib.Omega.{arith}
 use lib.Dec.{eqb}
-use lib.ListN.{length, getD, set, replicate, length-set, getD-replicate}
-use lib.Seq.{getD-set-same, getD-set-other}
+use lib.ListN.{getD, replicate, getD-replicate}
 use borrow.Author.Tests.{eq-eqb, ne-eqb}
-use Rattle.definitions.specs.Limits.{machines, nodes, sheetLength, absent}
+use Rattle.definitions.specs.Limits.{machines, nodes, absent}
 use Rattle.definitions.specs.Book.{number, encode, treeOf}
-use Rattle.definitions.specs.Sheet.{Rows, machineRowLength, machineRowWord, encodeRows, rowsOf}
+use Rattle.definitions.specs.Sheet.{Rows, encodeRows, rowsOf}
 use Rattle.definitions.specs.Stream.{Edit}
 use Rattle.definitions.specs.Edit.{single, withStale, edited, touches, editedRows}
 use Rattle.definitions.proofs.Options.{equal-or-not}
@@ -24,36 +23,6 @@ use Rattle.clearing.specs.Gone.{NodesGone, MachinesGone, withoutMachines, witho
 use Rattle.clearing.proofs.Laws.{left-then, nodes-all, machines-all}
 use Rattle.editing.specs.Edited.{Edited}
 use Rattle.beginning.specs.Empty.{emptyTree, emptyRows, Emptied}
-
--- ---- marks
-
--- the marks of the machines below m are 0 or 1
-abbrev pub MarksTo : ℕ → List ℕ → Type 0
-MarksTo i ws = (m : ℕ) → m < i → (machineRowWord ws m 0 ≡ 0) ⊎ (machineRowWord ws m 0 ≡ 1)
-
--- one mark more
-pub marks-more : (i : ℕ) (ws : List ℕ) {after : List ℕ} → length ws ≡ sheetLength → i < machines → MarksTo i ws
-    → after ≡ set ws (i * machineRowLength + 0) 0 → (length after ≡ sheetLength) × MarksTo (i + 1) after
-unfolding machineRowWord
-marks-more i ws {after} l hi marks e = (
-  ap length e ∙ length-set ws (i * machineRowLength + 0) 0 ∙ l,
-  λ m hm.
-      ⊎-elim
-      (λ same.
-      inl
-      (ap (λ (list : List ℕ). getD list (m * machineRowLength + 0) 0) e
-      ∙ ap (λ (j : ℕ). getD (set ws (i * machineRowLength + 0) 0) (j * machineRowLength + 0) 0) same
-      ∙ getD-set-same ws (i * machineRowLength + 0) 0 0 (omega arith)))
-      (λ other.
-      rw e
-      (rw (getD-set-other ws (i * machineRowLength + 0) (m * machineRowLength + 0) 0 0 (omega (arith, other)))
-      (marks m (omega (arith, other)))))
-      (equal-or-not m i),
-)
-
--- every mark
-pub marks-all : (i : ℕ) (ws : List ℕ) → i ≡ machines → MarksTo i ws → Marks ws
-marks-all i ws e marks m hm = marks m (omega arith)
 
 -- ---- all is emptied
 

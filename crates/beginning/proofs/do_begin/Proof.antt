@@ -34,7 +34,7 @@ returns c =
     let root = start .before .before .before .before in
     let empty = root .before .before .before .before .before .before in
     let e = empty .before .before .before .before .before in
-    begin-done (e .args .m) (e .args .n) (e .pre .1) (e .pre .2) (now (e .args .book)) (now (e .args .sheet)) (empty .empty .ensures)
+    begin-done (e .args .m) (e .args .n) (e .pre .2) (e .pre .3) (now (e .args .book)) (now (e .args .sheet)) (empty .empty .ensures)
     (root .set-root .ensures) (start .set-start .ensures) (owner .set-owner .ensures) (mark .set-stale .ensures)
 
 pub do-begin-spec : {M : Type 1} → statement M

@@ -1,4 +1,4 @@
--- `beginning::empty` meets its contract: all marks are written, and then every node and every machine is dropped. Assumes nothing.
+-- `beginning::empty` meets its contract: every node and every machine is dropped. Assumes nothing.
 use denote.Ref.{now}
 use lib.ListN.{replicate}
 use Rattle.definitions.specs.Limits.{machines, nodes}
@@ -6,9 +6,6 @@ use Rattle.beginning.proofs.Laws.{ones, all-empty}
 use borrow.Author.Needs.{needs}
 use Rattle.beginning.proofs.empty.Statement.{statement}
 use Rattle.beginning.proofs.empty.Tie as tie
-
-clear-marks-requires : tie.Need-clear-marks-requires
-clear-marks-requires c κs = search needs
 
 clear-nodes-requires : tie.Need-clear-nodes-requires
 clear-nodes-requires c κs = search needs
@@ -26,17 +23,15 @@ returns : tie.Need-returns
 returns c =
     let ms = c .before .before .before .before in
     let ns = ms .before .before .before .before .before .before .before .before in
-    let marks = ns .before .before .before .before .before .before in
-    let e = marks .before .before .before .before in
+    let e = ns .before .before .before .before .before .before in
     all-empty (now (e .args .book)) (replicate nodes 1) (replicate machines 1) (ones nodes) (ones machines)
-    (marks .clear-marks .ensures .1) (ns .clear-nodes .ensures)
+    (e .pre .1) (ns .clear-nodes .ensures)
     (ms .clear-machines .ensures)
 
 pub empty-spec : {M : Type 1} → statement M
 empty-spec =
     tie.close
     (tie.spec
-    clear-marks-requires
     clear-nodes-requires
     clear-machines-requires
     same-length

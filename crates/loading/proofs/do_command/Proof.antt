@@ -12,7 +12,7 @@ do-begin-requires : tie.Need-do-begin-requires
 do-begin-requires c κs =
     let p = c .before .before .before .before .before .before .before .pre in
     let range = begin-range p (c .before .before .before .command .given .1) refl in
-    (record { book = p .formed .length; sheet = p .filled .length }, range .machine-range, range .node-range)
+    (record { book = p .formed .length; sheet = p .filled .length }, p .filled .marks, range .machine-range, range .node-range)
 
 enum-known-command-2 : tie.Need-enum-known-command-2
 enum-known-command-2 c = search needs
