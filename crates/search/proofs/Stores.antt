@@ -11,9 +11,11 @@ use lib.ListN.{length, getD, set}
 use lib.Seq.{getD-set-same, getD-set-other}
 use borrow.Author.Tests.{ltb-true, ltb-false}
 use Rattle.definitions.specs.Basics.{put}
+use Rattle.definitions.specs.Limits.{nodes}
 use Rattle.definitions.specs.Step.{Arrival}
 use Rattle.definitions.proofs.Options.{none-some, some-same, equal-or-not, put-same, put-other}
-use Rattle.search.specs.Parts.{at, Labels, labels, storedIf, Change, stays, better, Relaxed}
+use Rattle.search.specs.Search.{rowMove}
+use Rattle.search.specs.Parts.{at, Labels, labels, storedIf, Change, stays, better, Relaxed, Row}
 
 -- g is f but for w at place v
 pub record Put (f g : ℕ → ℕ) (v w : ℕ) : Type 0 where
@@ -45,7 +47,7 @@ change-same p q s (better x w e d less b y) = better x w e (p ∙ d) (omega arit
 
 module _ {row : ℕ → Option Arrival} {u x : ℕ} {old : Labels} where
   -- one command more that has no move
-  pub relaxed-past : {new : Labels} → Relaxed row u x old new → row x ≡ none → Relaxed row u (x + 1) old new
+  relaxed-past : {new : Labels} → Relaxed row u x old new → row x ≡ none → Relaxed row u (x + 1) old new
   relaxed-past {new} r free =
       record {
         here = r .here;
@@ -97,19 +99,39 @@ module _ {row : ℕ → Option Arrival} {u x : ℕ} {old : Labels} where
         falls w =
             ⊎-elim (λ (e : w ≡ v). omega (arith, dist .same, ap (new .dist) e, ap (mid .dist) e)) (λ e. omega (arith, dist .other w e)) (equal-or-not w v)
 
-    -- one move more, as the code does it
-    pub relaxed-more : (dist before by dist′ before′ by′ : List ℕ) {d : ℕ} → (v < length dist) × (v < length before) × (v < length by)
-        → Relaxed row u x old (labels dist before by) → d ≡ old .dist u + c
-        → (dist′ ≡ storedIf (ltb d (getD dist v 0)) dist v d)
-        × (before′ ≡ storedIf (ltb d (getD dist v 0)) before v u)
-        × (by′ ≡ storedIf (ltb d (getD dist v 0)) by v x)
-        → Relaxed row u (x + 1) old (labels dist′ before′ by′)
-    relaxed-more dist before by dist′ before′ by′ {d} room r total stored =
-        subst₃ (λ (p q s : List ℕ). Relaxed row u (x + 1) old (labels p q s)) (sym (stored .0)) (sym (stored .1)) (sym (stored .2))
-        (go (ltb d (getD dist v 0)) refl)
-      where
-        go : (t : Bool) → ltb d (getD dist v 0) ≡ t
-            → Relaxed row u (x + 1) old (labels (storedIf t dist v d) (storedIf t before v u) (storedIf t by v x))
-        go true e =
-            relaxed-put r total (ltb-true d (getD dist v 0) e) (put-set dist v d (room .0)) (put-set before v u (room .1)) (put-set by v x (room .2))
-        go false e = relaxed-kept r (omega (arith, ltb-false d (getD dist v 0) e))
+-- Where command x of u leads, whose word in the table of costs is p: along its move, or, where it has none, to u itself.
+pub data Leads (row : ℕ → Option Arrival) (u x v p : ℕ) : Type 0 where
+  along : row x ≡ some (record { node = v; cost = p }) → Leads row u x v p
+  nowhere : row x ≡ none → v ≡ u → Leads row u x v p
+
+-- one command more, as the code does it: d is no less than the distance of u, and exact along a move
+pub relaxed-more : {row : ℕ → Option Arrival} {u x v p : ℕ} {old : Labels} → Leads row u x v p
+    → (dist before by dist′ before′ by′ : List ℕ) {d : ℕ} → (v < length dist) × (v < length before) × (v < length by)
+    → Relaxed row u x old (labels dist before by) → old .dist u ≤ d
+    → (row x ≡ some (record { node = v; cost = p }) → d ≡ old .dist u + p)
+    → (dist′ ≡ storedIf (ltb d (getD dist v 0)) dist v d)
+    × (before′ ≡ storedIf (ltb d (getD dist v 0)) before v u)
+    × (by′ ≡ storedIf (ltb d (getD dist v 0)) by v x)
+    → Relaxed row u (x + 1) old (labels dist′ before′ by′)
+relaxed-more {row} {u} {x} {v} {p} {old} leads dist before by dist′ before′ by′ {d} room r far exact stored =
+    subst₃ (λ (f g h : List ℕ). Relaxed row u (x + 1) old (labels f g h)) (sym (stored .0)) (sym (stored .1)) (sym (stored .2))
+    (go leads (ltb d (getD dist v 0)) refl)
+  where
+    go : Leads row u x v p → (t : Bool) → ltb d (getD dist v 0) ≡ t
+        → Relaxed row u (x + 1) old (labels (storedIf t dist v d) (storedIf t before v u) (storedIf t by v x))
+    go (along move) true e =
+        relaxed-put move r (exact move) (ltb-true d (getD dist v 0) e) (put-set dist v d (room .0)) (put-set before v u (room .1))
+        (put-set by v x (room .2))
+    go (along move) false e = relaxed-kept move r (omega (arith, exact move, ltb-false d (getD dist v 0) e))
+    go (nowhere free here) true e = absurd (omega (arith, ltb-true d (getD dist v 0) e, ap (at dist) here, r .here))
+    go (nowhere free here) false e = relaxed-past r free
+
+-- a node that is led to is one of the 256, with places in the lists
+module _ {u : ℕ} {target price dist before by : List ℕ} (row : Row u target price dist before by) {x v p : ℕ} where
+  pub leads-range : Leads (rowMove target price u) u x v p → v < nodes
+  leads-range (along move) = row .range _ _ move
+  leads-range (nowhere free here) = omega (arith, row .small)
+
+  pub leads-inside : Leads (rowMove target price u) u x v p → (v < length dist) × (v < length before) × (v < length by)
+  leads-inside (along move) = row .inside _ _ move
+  leads-inside (nowhere free here) = rw here (row .room)

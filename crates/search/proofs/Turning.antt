@@ -66,7 +66,7 @@ module _ {k s : ℕ} {target price : List ℕ} (tables : Tables k s target price
           let in-u = picked .inside in
           record {
             small = omega (arith, tables .small);
-            room = omega (arith, room);
+            room = (omega (arith, room), omega (arith, room), omega (arith, room));
             near = omega (arith, hand-cheap tables-moves (t .settling) picked, turns-few, tables .small);
             targets = omega (arith, tables .targets);
             prices = omega (arith, tables .prices);

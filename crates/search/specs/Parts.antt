@@ -94,11 +94,11 @@ pub record Relaxed (row : ℕ → Option Arrival) (u n : ℕ) (old new : Labels)
   pub met : (x : ℕ) (b : Arrival) → x < n → row x ≡ some b → new .dist (b .node) ≤ old .dist u + b .cost
   pub each : (v : ℕ) → Change row u old new v
 
--- what relaxing asks: row u of the tables is there, u is near, and the moves of u lead to one of the 256 nodes, with places in the lists, and cost
--- no more than the largest
+-- what relaxing asks: row u of the tables is there, u has places in the lists and is near, and the moves of u lead to one of the 256 nodes, with
+-- places in the lists, and cost no more than the largest
 pub record Row (u : ℕ) (target price dist before by : List ℕ) : Type 0 where
   pub small : u < nodes
-  pub room : u < length dist
+  pub room : (u < length dist) × (u < length before) × (u < length by)
   pub near : getD dist u 0 ≤ nodes * largestMove
   pub targets : commands * u + commands ≤ length target
   pub prices : commands * u + commands ≤ length price

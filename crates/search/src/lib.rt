@@ -6,7 +6,7 @@ ghost use mathlib.Core.Bool.{cond};
 ghost use lib.Dec.{ltb, leb};
 ghost use lib.ListN.{length, getD};
 ghost use Rattle.definitions.specs.Limits.{nodes, commands};
-ghost use Rattle.search.specs.Search.{unreached, rowMove, Tables, Room, Searched};
+ghost use Rattle.search.specs.Search.{largestMove, unreached, rowMove, Tables, Room, Searched};
 ghost use Rattle.search.specs.Parts.{at, labels, storedIf, Blank, Filled, Relaxed, Row, Listing, Grown, Nearest, Brought, Places};
 
 // The word for a node or a command that is not there, and for a distance that is not there.
@@ -23,6 +23,15 @@ fn word(table: &[u32], i: usize) -> u32
     ensures { λ r. ⌜ r ≡ getD (now (table .entry)) i 0 ⌝ }
 {
     table[i]
+}
+
+// The cost at place i of the table of costs, or the largest of a move where the table says more, as it may where there is no move.
+fn price_at(price: &[u64], i: usize) -> u64
+    requires { ⌜ i < length (now price) ⌝ }
+    ensures { λ r. ⌜ (r ≤ largestMove) × (getD (now (price .entry)) i 0 ≤ largestMove → r ≡ getD (now (price .entry)) i 0) ⌝ }
+{
+    let p = price[i];
+    if p < LARGEST { p } else { LARGEST }
 }
 
 // Blanks the first k nodes; the source has distance 0.
@@ -106,7 +115,8 @@ fn relax(u: u32, x: u32, v: usize, d: u64, dist: &mut [u64], before: &mut [u32],
     }
 }
 
-// Relaxes the moves of node u and lists the nodes that are reached by them; gives how many nodes are listed.
+// Relaxes the moves of node u and lists the nodes that are reached by them; gives how many nodes are listed. Whether there is a move cannot be
+// foreseen: none is taken as one from u to itself, which is never nearer, so that no jump is needed.
 fn relax_all(
     u: usize,
     target: &[u32],
@@ -131,19 +141,18 @@ fn relax_all(
     let mut x = 0usize;
     while x < 16 {
         let i = 16 * u + x;
-        let v = word(target, i);
-        if v != ABSENT {
-            listed = list(order, listed, v, dist[v as usize]);
-            relax(
-                u as u32,
-                x as u32,
-                v as usize,
-                here + price[i],
-                dist,
-                before,
-                by,
-            );
-        }
+        let t = word(target, i);
+        let v = if t == ABSENT { u as u32 } else { t };
+        listed = list(order, listed, v, dist[v as usize]);
+        relax(
+            u as u32,
+            x as u32,
+            v as usize,
+            here + price_at(price, i),
+            dist,
+            before,
+            by,
+        );
         x += 1;
     }
     listed

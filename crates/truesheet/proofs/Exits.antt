@@ -2,7 +2,7 @@
 use mathlib.Core.Path.{_≡_, refl, sym, ap, _∙_}
 use mathlib.Core.Bool.{Bool, true, false}
 use mathlib.Core.Option.{Option, none, some}
-use Prim.Native.Nat.{ℕ, _+_, _≤_, _<_}
+use Prim.Native.Nat.{ℕ, _+_, _%_, _≤_, _<_}
 use native.Mathlib.Omega.{arith}
 use lib.Dec.{eqb, leb}
 use borrow.Author.Tests.{leb-true, leb-false, eq-eqb, ne-eqb}
@@ -46,26 +46,30 @@ exit-never t r n x bel e = rw (bel, e)
 
 module _ {t : Tree} (s : Sound t) {r : Rows} (read : ReadRows r) (n x : ℕ) {b : ℕ} (below : b ≡ word (t .below n)) where
   -- a plain node is left at no cost
-  pub exits-plain : b ≡ absent → Exits (nodeExit t r n x) (Costs 0)
-  exits-plain z = record { is = sym (exit-plain t r n x (no-below t s n below z)); small = λ e f. omega (arith, some-same refl f) }
-
-  -- what a refined node holds is a machine
-  pub below-machine : (b ≡ absent → ⊥) → b < machines
-  below-machine other = below-range t s n b (said (t .below n) below other) .1
+  pub exits-plain : b ≡ absent → {w : ℕ} → w ≡ 0 → Exits (nodeExit t r n x) (Costs w)
+  exits-plain z free =
+      record { is = ap some free ∙ sym (exit-plain t r n x (no-below t s n below z)); small = λ e f. omega (arith, some-same refl f) }
 
   -- a refined node is left as the machine below it is
-  pub exits-never : (b ≡ absent → ⊥) → {e : ℕ} → e ≡ costWord (r .exit b x) → e ≡ blank → Exits (nodeExit t r n x) Never
-  exits-never other ee z =
-      let free : r .exit b x ≡ none = cost-unsaid (r .exit b x) (read .exit b x) ee z in
-      record { is = sym (exit-never t r n x (said (t .below n) below other) free); small = λ e f. absurd (none-some refl f) }
+  module _ (other : b ≡ absent → ⊥) {e : ℕ} (exit : e ≡ costWord (r .exit (b % machines) x)) where
+    holds : t .below n ≡ some b
+    holds = said (t .below n) below other
 
-  pub exits-costs : (b ≡ absent → ⊥) → {e w : ℕ} → e ≡ costWord (r .exit b x) → (e ≡ blank → ⊥) → w ≡ e → w < exitLimit
-      → Exits (nodeExit t r n x) (Costs w)
-  exits-costs other {e} {w} ee there same small =
-      let exit : nodeExit t r n x ≡ some (e + leaving t b) =
-      exit-refined t r n x (said (t .below n) below other) (cost-said (r .exit b x) ee there) in
-      let cost : w ≡ e + leaving t b = omega (arith, no-leaving t b) in
-      record { is = ap some cost ∙ sym exit; small = λ k f. omega (arith, some-same refl f) }
+    below-exit : e ≡ costWord (r .exit b x)
+    below-exit =
+        let same : b % machines ≡ b = omega (arith, below-range t s n b holds .1) in
+        rw same at exit
+
+    pub exits-never : e ≡ blank → Exits (nodeExit t r n x) Never
+    exits-never z =
+        let free : r .exit b x ≡ none = cost-unsaid (r .exit b x) (read .exit b x) below-exit z in
+        record { is = sym (exit-never t r n x holds free); small = λ e f. absurd (none-some refl f) }
+
+    pub exits-costs : (e ≡ blank → ⊥) → {w : ℕ} → w ≡ e → w < exitLimit → Exits (nodeExit t r n x) (Costs w)
+    exits-costs there {w} same small =
+        let exit : nodeExit t r n x ≡ some (e + leaving t b) = exit-refined t r n x holds (cost-said (r .exit b x) below-exit there) in
+        let cost : w ≡ e + leaving t b = omega (arith, no-leaving t b) in
+        record { is = ap some cost ∙ sym exit; small = λ k f. omega (arith, some-same refl f) }
 
 -- ---- what is at most something
 

@@ -77,7 +77,7 @@ unfolding counting
 some-counting {t} s n x e other = some-transition t s n x e other
 
 -- whose target is a node
-pub counting-node : {t : Tree} → Sound t → (n x : ℕ) {w : ℕ} → w ≡ transitionWord (counting t n x) → (w ≡ blank → ⊥) → w / costs < nodes
+counting-node : {t : Tree} → Sound t → (n x : ℕ) {w : ℕ} → w ≡ transitionWord (counting t n x) → (w ≡ blank → ⊥) → w / costs < nodes
 unfolding counting
 counting-node {t} s n x e other = target-range t s n x _ (some-counting s n x e other) .1
 
@@ -185,9 +185,9 @@ module _ {t : Tree} (s : Sound t) {r : Rows} (read : ReadRows r) (m n c x : ℕ)
     out = exits-some exit costs-e .0
 
     -- it is left with no transition, and so is the machine
-    pub relaxed-exit : (b : Bool) → w ≡ blank → {k : ℕ} → k ≡ costWord (r .exit m x) → Decides b (AtMost (costOf k) (c′ + e))
-        → Decides b (RelaxedBy t r m n c x)
-    relaxed-exit b z {k} ek =
+    pub relaxed-exit : (b : Bool) → w ≡ blank → {k : ℕ} → k ≡ costWord (r .exit m x) → {p : ℕ} → p ≡ 0
+        → Decides b (AtMost (costOf k) (c′ + e + p)) → Decides b (RelaxedBy t r m n c x)
+    relaxed-exit b z {k} ek ep =
         let stays = no-counting s n x moves z in
         let says : costOf k ≡ r .exit m x = cost-back (r .exit m x) (read .exit m x) ek in
         decides-same b
@@ -201,11 +201,12 @@ module _ {t : Tree} (s : Sound t) {r : Rows} (read : ReadRows r) (m n c x : ℕ)
         (low .0, says ∙ low .1, omega (arith, low .2)))
 
     -- it is left by a transition
-    pub relaxed-move : (b : Bool) → (w ≡ blank → ⊥) → {k : ℕ} → k ≡ costWord (r .cost (w / costs)) → {w′ : ℕ} → w′ ≡ w % costs
-        → Decides b (AtMost (costOf k) (c′ + e + w′)) → Decides b (RelaxedBy t r m n c x)
-    relaxed-move b there {k} ek {w′} ew =
+    pub relaxed-move : (b : Bool) → (w ≡ blank → ⊥) → {k : ℕ} → k ≡ costWord (r .cost (w / costs % nodes)) → {p : ℕ} → p ≡ w % costs
+        → Decides b (AtMost (costOf k) (c′ + e + p)) → Decides b (RelaxedBy t r m n c x)
+    relaxed-move b there {k} ek ep =
         let has = some-counting s n x moves there in
-        let says : costOf k ≡ r .cost (w / costs) = cost-back (r .cost (w / costs)) (read .cost (w / costs)) ek in
+        let node : w / costs % nodes ≡ w / costs = omega (arith, counting-node s n x moves there) in
+        let says : costOf k ≡ r .cost (w / costs) = cost-back (r .cost (w / costs)) (read .cost (w / costs)) (rw node at ek) in
         decides-same b
         (λ low.
         record {

@@ -41,20 +41,19 @@ pub fn counting(book: &[u32], n: u32, x: u32) -> u32
     book::transition(book, n, x)
 }
 
-// The own exit cost of node n for command x: 0 for a plain node, and for a refined one what the sheet says of the machine below it.
+// The own exit cost of node n for command x: 0 for a plain node, and for a refined one what the sheet says of the machine below it. Whether n is
+// plain cannot be foreseen: a word is read in either case, so that no jump is needed.
 pub fn own_exit(book: &[u32], sheet: &[u32], n: u32, x: u32) -> OwnExit
     requires { ⌜ Holding (now book) (now sheet) × (n < nodes) × (x < commands) ⌝ }
     ensures { λ r. ⌜ Exits (nodeExit (treeOf (now (book .entry))) (rowsOf (now (sheet .entry))) n x) r ⌝ }
 {
     let b = book::below(book, n);
-    if b == book::ABSENT {
-        return OwnExit::Costs(0);
-    }
-    let e = sheet::exit(sheet, b, x);
-    if e == book::BLANK {
+    let e = sheet::exit(sheet, b % book::MACHINES, x);
+    let own = if b == book::ABSENT { 0 } else { e };
+    if own == book::BLANK {
         return OwnExit::Never;
     }
-    OwnExit::Costs(wide(e))
+    OwnExit::Costs(wide(own))
 }
 
 // Whether the cost that word c says is there and is at most k.
@@ -252,19 +251,24 @@ fn named(book: &[u32], sheet: &[u32], m: u32, n: u32, c: u32) -> bool
     adds_up(book, sheet, u, x, w % 65536, c)
 }
 
-// Whether leaving node n of machine m, reached at cost c, by command x costs no less than what stands where it leads.
+// Whether leaving node n of machine m, reached at cost c, by command x costs no less than what stands where it leads. Whether n has a
+// transition cannot be foreseen: both words are read, so that no jump is needed.
 fn relaxed_by(book: &[u32], sheet: &[u32], m: u32, n: u32, c: u32, x: u32) -> bool
     requires { ⌜ Holding (now book) (now sheet) × (m < machines) × (n < nodes) × (x < commands) ⌝ }
     ensures { λ r. ⌜ Decides r (RelaxedBy (treeOf (now (book .entry))) (rowsOf (now (sheet .entry))) m n c x) ⌝ }
 {
+    let w = counting(book, n, x);
+    let cost = sheet::cost(sheet, w / 65536 % book::NODES);
+    let mut least = sheet::exit(sheet, m, x);
+    let mut price = 0;
+    if w != book::BLANK {
+        least = cost;
+        price = w % 65536;
+    }
     let OwnExit::Costs(e) = own_exit(book, sheet, n, x) else {
         return true;
     };
-    let w = counting(book, n, x);
-    if w == book::BLANK {
-        return at_most(sheet::exit(sheet, m, x), wide(c) + e);
-    }
-    at_most(sheet::cost(sheet, w / 65536), wide(c) + e + wide(w % 65536))
+    at_most(least, wide(c) + e + wide(price))
 }
 
 // Whether that is so by every command.

@@ -29,12 +29,15 @@ decides-same true f g d = f d
 decides-same false f g d = λ q. d (g q)
 
 -- a test of two numbers for equality, and its opposite
-pub decides-equal : {P : Type 0} (a b : ℕ) → (a ≡ b → P) → (P → a ≡ b) → Decides (eqb a b) P
-decides-equal {P} a b f g = go (eqb a b) refl
+pub decides-if : {P : Type 0} (a b : ℕ) → (a ≡ b → P) → ((a ≡ b → ⊥) → P → ⊥) → Decides (eqb a b) P
+decides-if {P} a b f g = go (eqb a b) refl
   where
     go : (c : Bool) → eqb a b ≡ c → Decides c P
     go true e = f (eqb-true a b e)
-    go false e = λ p. eqb-false a b e (g p)
+    go false e = g (eqb-false a b e)
+
+pub decides-equal : {P : Type 0} (a b : ℕ) → (a ≡ b → P) → (P → a ≡ b) → Decides (eqb a b) P
+decides-equal a b f g = decides-if a b f (λ other p. other (g p))
 
 pub decides-other : {P : Type 0} (a b : ℕ) → ((a ≡ b → ⊥) → P) → (P → a ≡ b → ⊥) → Decides (not (eqb a b)) P
 decides-other {P} a b f g = go (eqb a b) refl

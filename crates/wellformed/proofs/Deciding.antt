@@ -1,5 +1,5 @@
 -- What the tests of this crate's functions decide, from the words that they look at. Assumes nothing.
-use mathlib.Core.Path.{_≡_, sym, _∙_}
+use mathlib.Core.Path.{_≡_, sym, ap, _∙_}
 use mathlib.Core.Bool.{Bool, not}
 use mathlib.Core.Option.{some}
 use Prim.Native.Nat.{ℕ, _/_, _<_}
@@ -11,7 +11,7 @@ use Rattle.definitions.specs.Book.{word, transitionWord}
 use Rattle.wellformed.specs.Decides.{Decides}
 use Rattle.wellformed.specs.Fits.{UsedMachine, UsedNode, Climbs, RootFits, StartFits, HolderFits}
 use Rattle.wellformed.specs.Fits.{OwnerFits, BelowFits, TransitionFits}
-use Rattle.wellformed.proofs.Decide.{decides-same, decides-equal, decides-other}
+use Rattle.wellformed.proofs.Decide.{decides-same, decides-if, decides-equal, decides-other}
 use Rattle.wellformed.proofs.Fits.{Read}
 use Rattle.wellformed.proofs.Reading.{said-is, unsaid-is, said, unsaid, said-all, unsaid-all, transition-said, transition-target}
 
@@ -85,26 +85,33 @@ module _ {t : Tree} (read : Read t) where
       (λ fits. said-is (t .holder b) eh (fits b (said (t .below n) eb other)))
 
   -- a transition of a node
-  pub transition-blank : (n x : ℕ) {w : ℕ} → w ≡ transitionWord (t .transition n x) → w ≡ blank → TransitionFits t n x
-  transition-blank n x ew z a e = absurd (transition-target read n x a ew e .1 z)
+  module _ (n x : ℕ) {w m : ℕ} (ew : w ≡ transitionWord (t .transition n x)) (em : m ≡ word (t .owner n)) where
+    blank-fits : w ≡ blank → TransitionFits t n x
+    blank-fits z a e = absurd (transition-target read n x a ew e .1 z)
 
-  pub transition-unused : (n x : ℕ) {w m : ℕ} → w ≡ transitionWord (t .transition n x) → (w ≡ blank → ⊥) → m ≡ word (t .owner n)
-      → m ≡ absent → TransitionFits t n x → ⊥
-  transition-unused n x ew other em z fits =
-      let (a, e) = transition-said (t .transition n x) ew other in
-      let (k, own, to) = fits a e in
-      unsaid-all (read .owner n) em z k own
+    -- a node that is not in use has none
+    pub transition-unused : m ≡ absent → Decides (eqb w blank) (TransitionFits t n x)
+    transition-unused free =
+        decides-if w blank blank-fits
+        (λ other fits.
+        let (a, e) = transition-said (t .transition n x) ew other in
+        let (k, own, to) = fits a e in
+        unsaid-all (read .owner n) em free k own)
 
-  pub transition-decides : (n x : ℕ) {w m o : ℕ} → w ≡ transitionWord (t .transition n x) → (w ≡ blank → ⊥) → m ≡ word (t .owner n)
-      → (m ≡ absent → ⊥) → o ≡ word (t .owner (w / costs)) → Decides (eqb o m) (TransitionFits t n x)
-  transition-decides n x {w} {m} {o} ew other em owned eo =
-      decides-equal o m
-      (λ right a e.
-      let to : w / costs ≡ a .target = transition-target read n x a ew e .0 in
-      let at : t .owner (w / costs) ≡ some m = said (t .owner (w / costs)) (sym right ∙ eo) owned in
-      (m, said (t .owner n) em owned, rw to at at))
-      (λ fits.
-      let (a, e) = transition-said (t .transition n x) ew other in
-      let to : w / costs ≡ a .target = transition-target read n x a ew e .0 in
-      let (k, own, there) = fits a e in
-      said-is (t .owner (w / costs)) eo (rw to there) ∙ sym (said-is (t .owner n) em own))
+    module _ {v o : ℕ} (eo : o ≡ word (t .owner v)) where
+      -- where there is none the node itself is looked at
+      pub transition-blank : w ≡ blank → v ≡ n → Decides (eqb o m) (TransitionFits t n x)
+      transition-blank z here = decides-equal o m (λ same. blank-fits z) (λ fits. eo ∙ ap (λ (k : ℕ). word (t .owner k)) here ∙ sym em)
+
+      pub transition-decides : (m ≡ absent → ⊥) → (w ≡ blank → ⊥) → v ≡ w / costs → Decides (eqb o m) (TransitionFits t n x)
+      transition-decides owned other there =
+          decides-equal o m
+          (λ right a e.
+          let to : v ≡ a .target = there ∙ transition-target read n x a ew e .0 in
+          let at : t .owner v ≡ some m = said (t .owner v) (sym right ∙ eo) owned in
+          (m, said (t .owner n) em owned, rw to at at))
+          (λ fits.
+          let (a, e) = transition-said (t .transition n x) ew other in
+          let to : v ≡ a .target = there ∙ transition-target read n x a ew e .0 in
+          let (k, own, in-k) = fits a e in
+          said-is (t .owner v) eo (rw to in-k) ∙ sym (said-is (t .owner n) em own))

@@ -183,19 +183,18 @@ fn below_fits(book: &[u32], n: u32) -> bool
     holder_of(book, b) == n
 }
 
-// Whether the transition of node n for command x, where there is one, stays in n's machine, whose word is m.
+// Whether the transition of node n for command x, where there is one, stays in n's machine, whose word is m. Whether there is
+// one cannot be foreseen: none is taken as one to n itself, so that no jump is needed.
 fn transition_fits(book: &[u32], n: u32, m: u32, x: u32) -> bool
     requires { ⌜ (length (now book) ≡ bookLength) × (n < nodes) × (x < commands) × (m ≡ word (treeOf (now book) .owner n)) ⌝ }
     ensures { λ r. ⌜ Decides r (TransitionFits (treeOf (now (book .entry))) n x) ⌝ }
 {
     let w = book::transition(book, n, x);
-    if w == book::BLANK {
-        return true;
-    }
     if m == book::ABSENT {
-        return false;
+        return w == book::BLANK;
     }
-    owner_of(book, w / 65536) == m
+    let v = if w == book::BLANK { n } else { w / 65536 };
+    owner_of(book, v) == m
 }
 
 // Whether every transition of node n stays in n's machine.

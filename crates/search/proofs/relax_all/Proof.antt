@@ -1,18 +1,16 @@
 -- `search::relax_all` meets its contract: the moves of the commands passed are relaxed. Assumes nothing.
-use mathlib.Core.Path.{_≡_, refl, sym, _∙_, ap, subst, subst₃}
+use mathlib.Core.Path.{_≡_, refl, sym, _∙_, ap, subst}
 use mathlib.Core.Logic.{⊎-elim}
 use mathlib.Core.Option.{some}
-use mathlib.Core.List.{List}
 use Prim.Native.Nat.{ℕ, _+_, _*_, _≤_, _-_}
 use native.Mathlib.Omega.{arith}
 use lib.ListN.{length, getD}
-use borrow.Author.Needs.{needs}
 use denote.Ref.{now}
 use Rattle.definitions.specs.Limits.{commands}
 use Rattle.search.specs.Search.{rowMove}
 use Rattle.search.specs.Parts.{at, labels, Relaxed, Listing, Grown}
 use Rattle.search.proofs.Reading.{row-is, row-none}
-use Rattle.search.proofs.Stores.{change-less, relaxed-none, relaxed-past, relaxed-more}
+use Rattle.search.proofs.Stores.{change-less, relaxed-none, Leads, along, nowhere, relaxed-more, leads-range, leads-inside}
 use Rattle.search.proofs.Listing.{listing-room, grown-none, goes}
 use Rattle.search.proofs.relax_all.Statement.{statement}
 use Rattle.search.proofs.relax_all.Tie as tie
@@ -48,116 +46,99 @@ add-i c = omega (arith, c .before .before .before .before .before .before .befor
 word-requires : tie.Need-word-requires Inv-loop μ-loop
 word-requires c κs = omega (arith, c .before .before .before .before .before .before .before .before .before .pre .0)
 
--- the move in hand
-the-move : (c : tie.Then1 Inv-loop μ-loop)
+cast-v : tie.Need-cast-v Inv-loop μ-loop
+cast-v c = omega (arith, c .before .before .before .before .before .before .before .before .before .before .before .pre .0 .small)
+
+-- where the command in hand leads
+leads : (c : tie.Joined1 Inv-loop μ-loop)
     → let l = c .before .before .before in
     let a = l .before .before .before .before .before .before .before .before .args in
-    rowMove (now (a .target)) (now (a .price)) (a .u) (l .loop .x)
-    ≡ some (record { node = c .before .word .result; cost = getD (now (a .price)) (commands * a .u + l .loop .x) 0 })
-the-move c =
+    Leads (rowMove (now (a .target)) (now (a .price)) (a .u)) (a .u) (l .loop .x) (c .if1 .v) (getD (now (a .price)) (commands * a .u + l .loop .x) 0)
+leads c =
     let l = c .before .before .before in
     let a = l .before .before .before .before .before .before .before .before .args in
+    let p = getD (now (a .price)) (commands * a .u + l .loop .x) 0 in
     let same = c .before .word .ensures in
-    row-is (now (a .target)) (now (a .price)) (a .u) (l .loop .x)
-    (omega (arith, c .before .before .loop-test .taken)) (λ e. c .if1 .taken (same ∙ e))
-    ∙ ap (λ (v : ℕ). some (record { node = v; cost = getD (now (a .price)) (commands * a .u + l .loop .x) 0 })) (sym same)
-
-cast-list : tie.Need-cast-list Inv-loop μ-loop
-cast-list c = search needs
+    ⊎-elim (λ w. nowhere (row-none (now (a .target)) (now (a .price)) (a .u) (l .loop .x) (sym same ∙ w .0 .taken)) (w .1))
+    (λ w.
+    along
+    (row-is (now (a .target)) (now (a .price)) (a .u) (l .loop .x) (omega (arith, c .before .before .loop-test .taken))
+    (λ e. w .0 .left (same ∙ e))
+    ∙ ap (λ (v : ℕ). some (record { node = v; cost = p })) (sym (w .1 ∙ same))))
+    (c .if1 .came)
 
 mul-list : tie.Need-mul-list Inv-loop μ-loop
 mul-list c =
-    let t = c .before in
-    omega (arith, t .before .before .before .before .before .before .before .before .before .before .before .pre .0 .range _ _ (the-move t))
+    let j = c .before .before in
+    omega (arith, leads-range (j .before .before .before .before .before .before .before .before .before .before .before .pre .0) (leads j))
 
 slice-read-list : tie.Need-slice-read-list Inv-loop μ-loop
 slice-read-list c =
-    let t = c .before .before in
-    let l = t .before .before .before in
-    omega (arith, l .before .before .before .before .before .before .before .before .pre .0 .inside _ _ (the-move t), l .loop .inv .1)
+    let j = c .before .before .before in
+    let l = j .before .before .before in
+    omega (arith, leads-inside (l .before .before .before .before .before .before .before .before .pre .0) (leads j), l .loop .inv .1)
 
 list-requires : tie.Need-list-requires Inv-loop μ-loop
 list-requires c κs =
-    let t = c .before .before in
-    let l = t .before .before .before in
+    let j = c .before .before .before in
+    let l = j .before .before .before in
     let p = l .before .before .before .before .before .before .before .before .pre in
-    (omega (arith, p .2, l .loop .inv .1), listing-room (l .loop .inv .3) (p .0 .range _ _ (the-move t)))
+    (omega (arith, p .2, l .loop .inv .1), listing-room (l .loop .inv .3) (leads-range (p .0) (leads j)))
 
 cast-relax : tie.Need-cast-relax Inv-loop μ-loop
-cast-relax c = omega (arith, c .before .before .before .before .before .before .before .before .before .before .before .before .before .before .before .before .pre .0)
+cast-relax c =
+    let j = c .before .before .before .before .before .before in
+    omega (arith, j .before .before .before .before .before .before .before .before .before .before .before .pre .0 .small)
 
 cast-relax-2 : tie.Need-cast-relax-2 Inv-loop μ-loop
-cast-relax-2 c = omega (arith, c .before .before .before .before .before .before .before .loop-test .taken)
+cast-relax-2 c = omega (arith, c .before .before .before .before .before .before .before .before .loop-test .taken)
 
-cast-relax-3 : tie.Need-cast-relax-3 Inv-loop μ-loop
-cast-relax-3 c = search needs
-
-mul-relax : tie.Need-mul-relax Inv-loop μ-loop
-mul-relax c = omega (arith, c .before .before .before .before .before .before .before .loop-test .taken, c .before .before .before .before .before .before .before .before .before .before .before .before .before .before .before .before .pre .0)
-
-shared-slice-read-relax : tie.Need-shared-slice-read-relax Inv-loop μ-loop
-shared-slice-read-relax c = omega (arith, c .before .before .before .before .before .before .before .before .loop-test .taken, c .before .before .before .before .before .before .before .before .before .before .before .before .before .before .before .before .before .pre .0)
+price-at-requires : tie.Need-price-at-requires Inv-loop μ-loop
+price-at-requires c κs = omega (arith, c .before .before .before .before .before .before .before .before .loop-test .taken, c .before .before .before .before .before .before .before .before .before .before .before .before .before .before .before .before .before .pre .0 .prices)
 
 add-relax : tie.Need-add-relax Inv-loop μ-loop
-add-relax c =
-    let row = c .before .before .before .before .before .before .before .before .before .before .before .before .before .before .before .before .before .pre .0 in
-    omega (arith, row .near, row .cheap _ _ (the-move (c .before .before .before .before .before .before)))
+add-relax c = omega (arith, c .price-at .ensures .0, c .before .before .before .before .before .before .before .before .before .before .before .before .before .before .before .before .before .before .pre .0 .near)
 
 relax-requires : tie.Need-relax-requires Inv-loop μ-loop
 relax-requires c κs =
-    let t = c .before .before .before .before .before .before .before .before .before in
-    let l = t .before .before .before in
-    let inside = l .before .before .before .before .before .before .before .before .pre .0 .inside _ _ (the-move t) in
+    let j = c .before .before .before .before .before .before .before .before .before .before in
+    let l = j .before .before .before in
+    let inside = leads-inside (l .before .before .before .before .before .before .before .before .pre .0) (leads j) in
     let same = l .loop .inv .1 in
     (omega (arith, inside, same), omega (arith, inside, same), omega (arith, inside, same))
 
 add-x : tie.Need-add-x Inv-loop μ-loop
-add-x c = omega (arith, c .before .before .loop-test .taken)
+add-x c = omega (arith, c .before .before .before .before .before .before .before .before .before .before .before .before .before .before .before .before .before .before .before .loop-test .taken)
 
 loop-less : tie.Need-loop-less Inv-loop μ-loop
-loop-less c = omega (arith, c .before .before .loop-test .taken)
+loop-less c = omega (arith, c .before .before .before .before .before .before .before .before .before .before .before .before .before .before .before .before .before .before .before .loop-test .taken)
 
 loop-again : tie.Need-loop-again Inv-loop μ-loop
 loop-again c =
-    let l = c .before .before .before in
-    let a = l .before .before .before .before .before .before .before .before .args in
+    let r = c .before .before .before .before .before .before in
+    let q = r .before .before .before .before in
+    let o = q .before .before .before in
+    let j = o .before .before .before .before in
+    let l = j .before .before .before in
     let p = l .before .before .before .before .before .before .before .before .pre in
     let i = l .loop .inv in
-    let inside : l .loop .x + 1 ≤ commands = omega (arith, c .before .before .loop-test .taken) in
-    ⊎-elim
-    (λ w.
-    let t : tie.Then1 Inv-loop μ-loop = record { before = c .before; if1 = w .0 } in
-    let move = the-move t in
-    let room = p .0 .inside _ _ move in
+    let to = leads j in
+    let room = leads-inside (p .0) to in
+    let after = r .relax .last .1 .1 .1 .1 in
+    let kept = r .relax .kept .1 .1 .1 .1 in
     let step =
-    goes (l .loop .dist) (l .loop .order) (i .3) (i .4) (change-less (i .2 .each _)) (p .0 .range _ _ move) (omega (arith, room, i .1))
-    (omega (arith, p .2, i .1)) (omega (arith, p .0 .near, p .0 .cheap _ _ move))
-    (w .17 ∙ w .10 .ensures .0) (w .20 ∙ w .3 .ensures .0, w .21 ∙ w .3 .ensures .1) in (
-      inside,
-      (
-        ap length (w .17) ∙ w .10 .kept .1 .1 .1 .1 .0 ∙ i .1 .0,
-        ap length (w .18) ∙ w .10 .kept .1 .1 .1 .1 .1 .0 ∙ i .1 .1,
-        ap length (w .19) ∙ w .10 .kept .1 .1 .1 .1 .1 .1 .0 ∙ i .1 .2,
-        ap length (w .20) ∙ w .3 .kept .0 ∙ i .1 .3,
-      ),
-      relaxed-more move (l .loop .dist) (l .loop .before) (l .loop .by) (c .if1 .dist) (c .if1 .before) (c .if1 .by)
-          (omega (arith, room, i .1), omega (arith, room, i .1), omega (arith, room, i .1)) (i .2) refl
-          (w .17 ∙ w .10 .ensures .0, w .18 ∙ w .10 .ensures .1, w .19 ∙ w .10 .ensures .2),
+    goes (l .loop .dist) (l .loop .order) (i .3) (i .4) (change-less (i .2 .each _)) (leads-range (p .0) to) (omega (arith, room, i .1))
+    (omega (arith, p .2, i .1)) (omega (arith, p .0 .near, q .price-at .ensures .0)) (r .relax .ensures .0)
+    (o .list .ensures .0, o .list .ensures .1) in (
+      omega (arith, j .before .before .loop-test .taken),
+      (kept .0 ∙ i .1 .0, kept .1 .0 ∙ i .1 .1, kept .1 .1 .0 ∙ i .1 .2, o .list .kept .0 ∙ i .1 .3),
+      relaxed-more to (l .loop .dist) (l .loop .before) (l .loop .by) (after .0) (after .1 .0) (after .1 .1 .0)
+          (omega (arith, room, i .1), omega (arith, room, i .1), omega (arith, room, i .1)) (i .2) (omega arith)
+          (λ move. omega (arith, q .price-at .ensures .1 (p .0 .cheap _ _ move)))
+          (r .relax .ensures .0, r .relax .ensures .1, r .relax .ensures .2),
       step .0,
       step .1,
-    ))
-    (λ w.
-    let free = row-none (now (a .target)) (now (a .price)) (a .u) (l .loop .x) (sym (c .before .word .ensures) ∙ w .0 .left) in (
-      inside,
-      (ap length (w .1) ∙ i .1 .0, ap length (w .2) ∙ i .1 .1, ap length (w .3) ∙ i .1 .2, ap length (w .4) ∙ i .1 .3),
-      subst₃
-          (λ (p q s : List ℕ). Relaxed (rowMove (now (a .target)) (now (a .price)) (a .u)) (a .u) (l .loop .x + 1)
-          (labels (now (a .dist)) (now (a .before)) (now (a .by))) (labels p q s))
-          (sym (w .1)) (sym (w .2)) (sym (w .3)) (relaxed-past (i .2) free),
-      subst₃ (λ (d o : List ℕ) (n : ℕ). Listing (at d) (at o) n) (sym (w .1)) (sym (w .4)) (sym (w .5)) (i .3),
-      subst₃ (λ (d o : List ℕ) (n : ℕ). Grown (at (now (a .dist))) (at d) (at (now (a .order))) (at o) (a .count) n) (sym (w .1)) (sym (w .4)) (sym (w .5)) (i .4),
-    ))
-    (c .if1 .came)
+    )
 
 same-length : tie.Need-same-length Inv-loop μ-loop
 same-length c = c .before .loop .inv .1 .0
@@ -194,15 +175,13 @@ relax-all-spec =
     mul-i
     add-i
     word-requires
-    cast-list
+    cast-v
     mul-list
     slice-read-list
     list-requires
     cast-relax
     cast-relax-2
-    cast-relax-3
-    mul-relax
-    shared-slice-read-relax
+    price-at-requires
     add-relax
     relax-requires
     add-x
