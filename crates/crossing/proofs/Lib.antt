@@ -1,4 +1,6 @@
+pub mod Upward
 pub mod Opening
 pub mod Landing
+pub mod Inheriting
 pub mod Tabling
 pub mod Searched

@@ -1,6 +1,6 @@
 -- The list of opened machines: the walk up from a node, machine by machine, and what the list says in the end. Assumes nothing.
 use mathlib.Core.Path.{_≡_, refl, sym, _∙_, ap, fun-ext}
-use mathlib.Core.Logic.{⊎-elim}
+use mathlib.Core.Logic.{_⊎_, inl, inr, ⊎-elim}
 use mathlib.Core.Bool.{Bool, true, false, _||_, or-true, or-false, or-comm}
 use mathlib.Core.Option.{some}
 use mathlib.Core.List.{List}
@@ -11,16 +11,16 @@ use lib.ListN.{length, getD, set, replicate, length-set}
 use lib.Seq.{getD-set-same, getD-set-other}
 use borrow.Author.Tests.{eq-eqb, ne-eqb}
 use Rattle.definitions.specs.Limits.{machines, nodes, absent}
-use Rattle.definitions.specs.Tree.{Tree, level, over}
+use Rattle.definitions.specs.Tree.{Tree, over}
 use Rattle.definitions.specs.Book.{word, treeOf, WellFormed}
 use Rattle.definitions.proofs.Options.{equal-or-not}
-use Rattle.definitions.proofs.Path.{level-on}
-use Rattle.definitions.proofs.Words.{present-word, no-holder, no-owner, owner-range}
+use Rattle.definitions.proofs.Words.{present-word, no-owner, owner-range}
 use Rattle.definitions.proofs.Commands.{over-top, over-up}
 use Rattle.plantheory.specs.Search.{openedFor}
 use Rattle.stepping.specs.Meaning.{Used}
-use Rattle.stepping.proofs.Laws.{used-range, owner-told}
-use Rattle.crossing.specs.Parts.{isOpen, Opens, inOpened}
+use Rattle.stepping.proofs.Laws.{used-range}
+use Rattle.crossing.specs.Parts.{isOpen, Opens, OpenedFor, inOpened}
+use Rattle.crossing.proofs.Upward.{own, top, held, used-holder}
 
 -- ---- one machine more
 
@@ -35,6 +35,11 @@ open-set words o m room =
 swapped : (a b c : Bool) → (a || (b || c)) ≡ ((b || a) || c)
 swapped a true c = or-true a
 swapped a false c = refl
+
+-- of two tests one holds
+pub either : (a b : Bool) → (a || b) ≡ true → (a ≡ true) ⊎ (b ≡ true)
+either true b e = inl refl
+either false b e = inr e
 
 -- ---- the walk up
 
@@ -54,12 +59,12 @@ module _ (book : List ℕ) (w : WellFormed book) {old new : List ℕ} {s n : ℕ
   hand-range = used-range book w n (walk .used)
 
   module _ {o : ℕ} (owner : o ≡ word (treeOf book .owner n)) where
-    own : treeOf book .owner n ≡ some o
-    own = owner-told book w n (walk .used) owner .0
+    own-n : treeOf book .owner n ≡ some o
+    own-n = own book w n (walk .used) owner
 
     -- and so is its machine, which has its word
     pub machine-range : o < machines
-    machine-range = owner-told book w n (walk .used) owner .1
+    machine-range = owner-range (treeOf book) (w .sound) n o own-n .1
 
     pub machine-room : o < length new
     machine-room = omega (arith, machine-range, walk .room)
@@ -71,30 +76,23 @@ module _ (book : List ℕ) (w : WellFormed book) {old new : List ℕ} {s n : ℕ
           record {
             says = λ m.
                 open-set new o m machine-room
-                ∙ ap (λ (b : Bool). b || isOpen new m) (sym (over-top (treeOf book) m own (no-holder (treeOf book) (w .sound) o holder free)))
+                ∙ ap (λ (b : Bool). b || isOpen new m) (sym (over-top (treeOf book) m own-n (top book w n (walk .used) owner holder free)))
                 ∙ walk .rest m;
           }
 
       module _ (there : h ≡ absent → ⊥) where
-        held : treeOf book .holder o ≡ some h
-        held = present-word (treeOf book .holder o) holder there
-
         -- node h holds it: on from there
         pub walk-on : Walking (treeOf book) old (set new o 1) s h
         walk-on =
             record {
               room = length-set new o 1 ∙ walk .room;
-              used = w .sound .holder-used o h held;
+              used = used-holder book w n (walk .used) owner holder there;
               rest = λ m.
                   ap (λ (b : Bool). over (treeOf book) m h || b) (open-set new o m machine-room)
                   ∙ swapped (over (treeOf book) m h) (eqb o m) (isOpen new m)
-                  ∙ ap (λ (b : Bool). b || isOpen new m) (sym (over-up (w .sound) m own held))
+                  ∙ ap (λ (b : Bool). b || isOpen new m) (sym (over-up (w .sound) m own-n (held book w n (walk .used) owner holder there)))
                   ∙ walk .rest m;
             }
-
-        -- a level higher
-        pub walk-higher : level (treeOf book) h < level (treeOf book) n
-        walk-higher = omega (arith, level-on (w .sound) own held)
 
 -- ---- what the list says
 
@@ -110,7 +108,7 @@ closed k m = rw (zeros k m)
 
 -- after two walks from such a list the machines above a or b are opened
 pub opened-both : {t : Tree} {a b : ℕ} {none-open first both : List ℕ} → ((m : ℕ) → isOpen none-open m ≡ false) → Opens t a none-open first
-    → Opens t b first both → isOpen both ≡ openedFor t a b
+    → Opens t b first both → OpenedFor t a b both
 unfolding openedFor
 opened-both {t} {a} {b} none-yet one two =
     fun-ext λ m.

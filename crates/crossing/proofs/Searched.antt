@@ -23,8 +23,7 @@ use Rattle.search.proofs.Reading.{move-some, move-row, row-words}
 use Rattle.search.proofs.Cut.{cut, cut-at, cut-start, cut-bounded}
 use Rattle.stepping.proofs.Laws.{used-range}
 use Rattle.crossing.specs.Crossing.{Crossable, CrossRoom, Crossed}
-use Rattle.crossing.specs.Parts.{isOpen, Opens, inOpened, openMove, TableRoom, Tabled}
-use Rattle.crossing.proofs.Opening.{opened-both}
+use Rattle.crossing.specs.Parts.{inOpened, openMove, TableRoom, Tabled}
 use Rattle.crossing.proofs.Tabling.{in-used, used-in, open-move, shut-move}
 
 module _ {t : Tree} (sound : Sound t) (r : Rows) {opened : ℕ → Bool} (opening : Opening t opened) {target price : List ℕ}
@@ -138,20 +137,15 @@ module _ {t : Tree} (sound : Sound t) (r : Rows) {opened : ℕ → Bool} (openin
 
 -- ---- the whole search
 
-module _ {book sheet : List ℕ} {a b : ℕ} (able : Crossable book sheet a b) {none-open first both target price : List ℕ}
-    (none-yet : (m : ℕ) → isOpen none-open m ≡ false) (one : Opens (treeOf book) a none-open first) (two : Opens (treeOf book) b first both)
-    (table : Tabled (openMove (treeOf book) (rowsOf sheet) (isOpen both)) target price) where
-  -- the machines above a and b are opened
-  table-for : Tabled (openMove (treeOf book) (rowsOf sheet) (openedFor (treeOf book) a b)) target price
-  table-for = rw (← opened-both none-yet one two) table
-
+module _ {book sheet : List ℕ} {a b : ℕ} (able : Crossable book sheet a b) {target price : List ℕ}
+    (table : Tabled (openMove (treeOf book) (rowsOf sheet) (openedFor (treeOf book) a b)) target price) where
   opening : Opening (treeOf book) (openedFor (treeOf book) a b)
   opening = opening-for (able .well-formed .sound) (able .from-used .1) (able .to-used .1)
 
   -- the search can begin
   pub cross-ready : TableRoom target price → Tables nodes a target price
   cross-ready room =
-      tables-ready (able .well-formed .sound) (rowsOf sheet) opening table-for (able .true-sheet .rows) (able .fresh) room
+      tables-ready (able .well-formed .sound) (rowsOf sheet) opening table (able .true-sheet .rows) (able .fresh) room
       (used-range book (able .well-formed) a (able .from-used))
 
   -- and leaves what is to be found
@@ -161,7 +155,7 @@ module _ {book sheet : List ℕ} {a b : ℕ} (able : Crossable book sheet a b) {
       record {
         room = room;
         searched =
-            certified-plan (able .well-formed .sound) (rowsOf sheet) opening table-for
+            certified-plan (able .well-formed .sound) (rowsOf sheet) opening table
             (used-in (treeOf book) (openedFor (treeOf book) a b) a (able .from-used .1)
             (opened-first (treeOf book) b (able .from-used .1)))
             (done .certificate);

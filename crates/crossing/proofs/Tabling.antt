@@ -4,41 +4,86 @@ use mathlib.Core.Logic.{⊎-elim}
 use mathlib.Core.Bool.{Bool, true, false}
 use mathlib.Core.Option.{Option, none, some}
 use mathlib.Core.List.{List}
-use Prim.Native.Nat.{ℕ, _+_, _*_, _≤_, _<_}
+use Prim.Native.Nat.{ℕ, _+_, _*_, _/_, _%_, _≤_, _<_}
 use native.Mathlib.Omega.{arith}
 use lib.ListN.{length, getD, set, replicate, getD-replicate}
 use lib.Seq.{getD-set-same, getD-set-other}
-use Rattle.definitions.specs.Limits.{nodes, commands, absent}
-use Rattle.definitions.specs.Tree.{Tree}
-use Rattle.definitions.specs.Step.{Arrival, passed, climb}
+use borrow.Author.Tests.{eq-eqb, ne-eqb}
+use Rattle.definitions.specs.Basics.{_>>=_}
+use Rattle.definitions.specs.Limits.{nodes, commands, costs, absent, blank}
+use Rattle.definitions.specs.Tree.{Tree, Transition, Sound}
+use Rattle.definitions.specs.Step.{Climb, found, passed, climb, Arrival}
+use Rattle.definitions.specs.Book.{number, transitionOf}
 use Rattle.definitions.specs.Sheet.{Rows}
 use Rattle.definitions.specs.Truth.{nodeExit}
-use Rattle.definitions.proofs.Options.{equal-or-not, true-false}
-use Rattle.plantheory.specs.Search.{planMove}
+use Rattle.definitions.proofs.Options.{none-some, some-same, equal-or-not, true-false}
+use Rattle.definitions.proofs.Path.{climb-found}
+use Rattle.definitions.proofs.Words.{under-in}
+use Rattle.plantheory.specs.Search.{arrives, planMove}
 use Rattle.search.specs.Search.{rowMove}
-use Rattle.search.proofs.Reading.{row-is, row-none}
-use Rattle.crossing.specs.Parts.{inOpened, openMove, TableRoom, BlankRow, EntryFilled, RowFilled, Tabled}
+use Rattle.search.proofs.Reading.{row-none}
+use Rattle.crossing.specs.Parts.{inOpened, NodeList, Landings, landed, finds, leaves, landMove, entryMove, InNodes}
+use Rattle.crossing.specs.Parts.{openMove, TableRoom, BlankRow, EntryFilled, RowFilled, Tabled}
 
--- ---- where there is no move
+-- ---- the moves by where the targets land
 
-module _ (t : Tree) (r : Rows) (opened : ℕ → Bool) (n x : ℕ) where
-  -- a node that is never left
-  pub move-never : nodeExit t r n x ≡ none → planMove t r opened n x ≡ none
-  unfolding planMove
-  move-never off = rw off
+module _ {t : Tree} (s : Sound t) {lands : List ℕ} where
+  -- what is found leads to a node
+  pub finds-node : NodeList lands → (n x : ℕ) {a : Transition} → finds t lands n x ≡ some a → a .target < nodes
+  unfolding finds
+  finds-node list n x {a} e = go (climb t (t .root) n x) refl e
+    where
+      go : (k : Climb) → climb t (t .root) n x ≡ k → landed lands k ≡ some a → a .target < nodes
+      go (passed c) up f = absurd (none-some {a = a} refl f)
+      go (found u v c) up f =
+          let at-v = climb-found s (t .root) n x up in
+          subst (λ (b : Transition). b .target < nodes) (some-same refl f) (list .inside v (s .node-range v (at-v .machine) (at-v .target-owner)))
 
-  -- one from which x finds no transition
-  pub move-passed : {e c : ℕ} → nodeExit t r n x ≡ some e → climb t (t .root) n x ≡ passed c → planMove t r opened n x ≡ none
-  unfolding planMove
-  move-passed exit up = rw (exit, up)
+  -- they are the moves of the search
+  pub land-plan : (r : Rows) {opened : ℕ → Bool} → Landings t opened lands → (n x : ℕ) → landMove t r lands n x ≡ planMove t r opened n x
+  unfolding landMove planMove finds
+  land-plan r {opened} landings n x = go (nodeExit t r n x) (climb t (t .root) n x) refl
+    where
+      go : (o : Option ℕ) (k : Climb) → climb t (t .root) n x ≡ k → leaves o (landed lands k) ≡ (o >>= λ e. arrives t opened e k)
+      go none k up = refl
+      go (some e) (passed c) up = refl
+      go (some e) (found u v c) up =
+          let at-v = climb-found s (t .root) n x up in
+          rw (landings .says v (s .node-range v (at-v .machine) (at-v .target-owner)))
 
 -- ---- one entry
 
-module _ {target price : List ℕ} {n x : ℕ} where
-  -- an entry that stays without a move
-  pub entry-stays : {o : Option Arrival} → rowMove target price n x ≡ none → o ≡ none → EntryFilled o n x target price target price
-  entry-stays blank off = record { here = blank ∙ sym off; others = λ u y small apart. refl }
+-- a word that is not the one for absent says its number, and that one says none
+says-node : (v : ℕ) → (v ≡ absent → ⊥) → number v ≡ some v
+unfolding number
+says-node v there = rw (ne-eqb v absent there)
 
+says-none : (v : ℕ) → v ≡ absent → number v ≡ none
+unfolding number
+says-none v free = rw (eq-eqb v absent free)
+
+-- the move of a node left at cost e, from the word of the transition found: the word for no transition has the word for absent as target
+pub priced-costs : (w e : ℕ) → InNodes w → entryMove (w / costs) (e + w % costs) ≡ leaves (some e) (transitionOf w)
+unfolding transitionOf
+priced-costs w e inside =
+    ⊎-elim
+    (λ (free : w ≡ blank). ap (λ (o : Option ℕ). o >>= λ v. some (record { node = v; cost = e + w % costs })) (says-none (w / costs) (omega arith)) ∙ rw (eq-eqb w blank free))
+    (λ (there : w ≡ blank → ⊥).
+    let node : w / costs < nodes = inside (record { target = w / costs; cost = w % costs }) (rw (ne-eqb w blank there)) in
+    ap (λ (o : Option ℕ). o >>= λ v. some (record { node = v; cost = e + w % costs })) (says-node (w / costs) (λ z. omega arith)) ∙ rw (ne-eqb w blank there))
+    (equal-or-not w blank)
+
+-- a node that is never left has none
+pub priced-never : (c : ℕ) (way : Option Transition) → entryMove absent c ≡ leaves none way
+priced-never c way = ap (λ (o : Option ℕ). o >>= λ v. some (record { node = v; cost = c })) (says-none absent refl)
+
+-- the two together are the move
+pub move-parts : (t : Tree) (r : Rows) (lands : List ℕ) (n x : ℕ) {exit : Option ℕ} {way : Option Transition} → exit ≡ nodeExit t r n x
+    → way ≡ finds t lands n x → leaves exit way ≡ landMove t r lands n x
+unfolding landMove
+move-parts t r lands n x exits finds-it = rw (exits, finds-it)
+
+module _ {target price : List ℕ} {n x : ℕ} where
   module _ (room : TableRoom target price) (node : n < nodes) (range : x < commands) where
     -- its place is inside the tables
     pub place-target : commands * n + x < length target
@@ -47,16 +92,16 @@ module _ {target price : List ℕ} {n x : ℕ} where
     pub place-price : commands * n + x < length price
     place-price = omega (arith, room .price-room)
 
-    -- an entry that gets one
-    pub entry-stored : (v c : ℕ) {o : Option Arrival} → v < nodes → o ≡ some (record { node = v; cost = c })
+    -- an entry that is stored
+    pub entry-stored : (v c : ℕ) {o : Option Arrival} → entryMove v c ≡ o
         → EntryFilled o n x target price (set target (commands * n + x) v) (set price (commands * n + x) c)
     unfolding rowMove
-    entry-stored v c small is =
+    entry-stored v c is =
         let i : ℕ = commands * n + x in
         let here-v : getD (set target i v) i 0 ≡ v = getD-set-same target i v 0 place-target in
         let here-c : getD (set price i c) i 0 ≡ c = getD-set-same price i c 0 place-price in
         record {
-          here = row-is (set target i v) (set price i c) n x range (λ e. omega arith) ∙ rw (here-v, here-c) (sym is);
+          here = under-in commands x _ range ∙ rw (here-v, here-c) is;
           others = λ u y less apart.
               let other : commands * u + y ≡ i → ⊥ = λ e. apart (omega arith) (omega arith) in
               rw (getD-set-other target i (commands * u + y) v 0 other, getD-set-other price i (commands * u + y) c 0 other);
@@ -68,13 +113,10 @@ module _ {target price : List ℕ} {n x : ℕ} where
 pub record RowTo (move : ℕ → Option Arrival) (n j : ℕ) (target price target′ price′ : List ℕ) : Type 0 where
   pub room : TableRoom target′ price′
   pub here : (x : ℕ) → x < j → rowMove target′ price′ n x ≡ move x
-  pub rest : (x : ℕ) → j ≤ x → x < commands → rowMove target′ price′ n x ≡ none
   pub others : (u x : ℕ) → x < commands → (u ≡ n → ⊥) → rowMove target′ price′ u x ≡ rowMove target price u x
 
-pub row-starts : (move : ℕ → Option Arrival) {n : ℕ} {target price : List ℕ} → TableRoom target price → BlankRow n target price
-    → RowTo move n 0 target price target price
-row-starts move room blank =
-    record { room = room; here = λ x small. absurd (omega arith); rest = λ x past. blank x; others = λ u x range apart. refl }
+pub row-starts : (move : ℕ → Option Arrival) {n : ℕ} {target price : List ℕ} → TableRoom target price → RowTo move n 0 target price target price
+row-starts move room = record { room = room; here = λ x small. absurd (omega arith); others = λ u x range apart. refl }
 
 module _ {move : ℕ → Option Arrival} {n j : ℕ} {target price old cost : List ℕ} (to : RowTo move n j target price old cost) where
   -- one entry more
@@ -86,7 +128,6 @@ module _ {move : ℕ → Option Arrival} {n j : ℕ} {target price old cost : Li
         here = λ x less.
             ⊎-elim (λ (same : x ≡ j). subst (λ (y : ℕ). rowMove new price′ n y ≡ move y) (sym same) (entry .here))
             (λ (apart : x ≡ j → ⊥). entry .others n x (omega arith) (λ e. apart) ∙ to .here x (omega arith)) (equal-or-not x j);
-        rest = λ x past range. entry .others n x range (λ e f. omega arith) ∙ to .rest x (omega arith) range;
         others = λ u x range apart. entry .others u x range (λ e f. apart e) ∙ to .others u x range apart;
       }
 
@@ -105,6 +146,11 @@ module _ (t : Tree) (opened : ℕ → Bool) (n : ℕ) where
       go : (o : Option ℕ) → t .owner n ≡ o → (m : ℕ) × (t .owner n ≡ some m) × (opened m ≡ true)
       go none own = absurd (true-false (rw own at on) refl)
       go (some m) own = (m, own, rw own at on)
+
+  -- and so its machine, whichever it is, is opened
+  pub own-opened : inOpened t opened n ≡ true → {m : ℕ} → t .owner n ≡ some m → opened m ≡ true
+  unfolding inOpened
+  own-opened on own = rw own at on
 
   pub used-in : {m : ℕ} → t .owner n ≡ some m → opened m ≡ true → inOpened t opened n ≡ true
   unfolding inOpened
@@ -125,9 +171,10 @@ module _ (t : Tree) (r : Rows) (opened : ℕ → Bool) (n : ℕ) where
     pub row-shut : inOpened t opened n ≡ false → BlankRow n target price → RowFilled (openMove t r opened n) n target price target price
     row-shut off blank = record { here = λ x range. blank x range ∙ sym (shut-move x off); others = λ u x range apart. refl }
 
-    pub row-open : {new price′ : List ℕ} → inOpened t opened n ≡ true → RowFilled (planMove t r opened n) n target price new price′
-        → RowFilled (openMove t r opened n) n target price new price′
-    row-open on row = record { here = λ x range. row .here x range ∙ sym (open-move x on); others = row .others }
+    pub row-open : {lands new price′ : List ℕ} → Sound t → Landings t opened lands → inOpened t opened n ≡ true
+        → RowFilled (landMove t r lands n) n target price new price′ → RowFilled (openMove t r opened n) n target price new price′
+    row-open s landings on row =
+        record { here = λ x range. row .here x range ∙ land-plan s r landings n x ∙ sym (open-move x on); others = row .others }
 
 -- ---- all rows
 

@@ -1,17 +1,20 @@
--- What the parts of the search for a plan leave: the list of opened machines, and the tables of the moves between their nodes.
+-- What the parts of the search for a plan leave: the list of opened machines, where nodes land in them, what machines inherit, and the tables of
+-- the moves between their nodes.
 use mathlib.Core.Path.{_≡_}
-use mathlib.Core.Bool.{Bool, false, cond, _||_}
-use mathlib.Core.Option.{Option, none}
+use mathlib.Core.Bool.{Bool, true, false, cond, _||_}
+use mathlib.Core.Option.{Option, none, some}
 use mathlib.Core.List.{List}
-use Prim.Native.Nat.{ℕ, _*_, _<_}
+use Prim.Native.Nat.{ℕ, _+_, _*_, _<_}
 use lib.Dec.{eqb}
 use lib.ListN.{length}
-use Rattle.definitions.specs.Basics.{option}
-use Rattle.definitions.specs.Limits.{nodes, commands}
-use Rattle.definitions.specs.Tree.{Tree, over}
-use Rattle.definitions.specs.Step.{Arrival}
+use Rattle.definitions.specs.Basics.{_>>=_, option}
+use Rattle.definitions.specs.Limits.{machines, nodes, commands}
+use Rattle.definitions.specs.Tree.{Tree, Transition, over}
+use Rattle.definitions.specs.Step.{Climb, found, passed, climb, Arrival}
+use Rattle.definitions.specs.Book.{number, transitionOf}
 use Rattle.definitions.specs.Sheet.{Rows}
-use Rattle.plantheory.specs.Search.{planMove}
+use Rattle.definitions.specs.Truth.{nodeExit}
+use Rattle.plantheory.specs.Search.{openedFor, land, planMove}
 use Rattle.search.specs.Search.{rowMove}
 use Rattle.search.specs.Parts.{at}
 
@@ -25,11 +28,107 @@ isOpen words m = eqb (at words m) 1
 pub record Opens (t : Tree) (s : ℕ) (old new : List ℕ) : Type 0 where
   pub says : (m : ℕ) → isOpen new m ≡ (over t m s || isOpen old m)
 
+-- the machines above a and b are opened, and no others
+abbrev pub OpenedFor : Tree → ℕ → ℕ → List ℕ → Type 0
+OpenedFor t a b words = isOpen words ≡ openedFor t a b
+
 -- whether node n belongs to an opened machine
 unfoldable pub inOpened : Tree → (ℕ → Bool) → ℕ → Bool
 inOpened t opened n = option false opened (t .owner n)
 
+-- ---- where the nodes land
+
+-- a list with a word for every node, each the number of a node
+pub record NodeList (words : List ℕ) : Type 0 where
+  pub room : length words ≡ nodes
+  pub inside : (v : ℕ) → v < nodes → at words v < nodes
+
+-- each node's word is the node itself
+abbrev pub Itself : List ℕ → Type 0
+Itself words = (v : ℕ) → v < nodes → at words v ≡ v
+
+-- the word of node v is where it lands
+abbrev pub LandsAt : Tree → (ℕ → Bool) → List ℕ → ℕ → Type 0
+LandsAt t opened lands v = (land t opened v ≡ some (at lands v)) × (at lands v < nodes)
+
+-- so it is for the nodes that hold the machine of node s or one above it, and for those for which it was before
+pub record LandedAbove (t : Tree) (opened : ℕ → Bool) (s : ℕ) (old new : List ℕ) : Type 0 where
+  pub told : (v b : ℕ) → t .below v ≡ some b → over t b s ≡ true → LandsAt t opened new v
+  pub kept : (v : ℕ) → LandsAt t opened old v → LandsAt t opened new v
+
+-- the list has for every node the node where it lands
+pub record Landings (t : Tree) (opened : ℕ → Bool) (lands : List ℕ) : Type 0 where
+  pub list : NodeList lands
+  pub says : (v : ℕ) → v < nodes → land t opened v ≡ some (at lands v)
+
+-- ---- what a command finds
+
+-- what a climb finds, with the node where its target lands for target
+abbrev pub landed : List ℕ → Climb → Option Transition
+landed lands (found u v c) = some (record { target = at lands v; cost = c })
+landed lands (passed c) = none
+
+-- what command x finds from node n
+unfoldable pub finds : Tree → List ℕ → ℕ → ℕ → Option Transition
+finds t lands n x = landed lands (climb t (t .root) n x)
+
+-- what machine m inherits for command x, which none of its nodes catches: what x finds from the node that holds m, and for the root nothing
+unfoldable pub inherits : Tree → List ℕ → ℕ → ℕ → Option Transition
+inherits t lands m x = t .holder m >>= λ h. finds t lands h x
+
+-- the list has a word for every machine and command
+abbrev pub UpRoom : List ℕ → Type 0
+UpRoom up = length up ≡ commands * machines
+
+-- its word for m and x says what m inherits for x
+abbrev pub Inherited : Tree → List ℕ → List ℕ → ℕ → ℕ → Type 0
+Inherited t lands up m x = transitionOf (at up (commands * m + x)) ≡ inherits t lands m x
+
+-- and so do all words of machine m's row; of the row of node n's machine; of the root's row
+abbrev pub OwnRow : Tree → List ℕ → List ℕ → ℕ → Type 0
+OwnRow t lands up m = (x : ℕ) → x < commands → Inherited t lands up m x
+
+abbrev pub RowAbove : Tree → List ℕ → List ℕ → ℕ → Type 0
+RowAbove t lands up n = (m : ℕ) → t .owner n ≡ some m → OwnRow t lands up m
+
+abbrev pub RootRow : Tree → List ℕ → List ℕ → Type 0
+RootRow t lands up = OwnRow t lands up (t .root)
+
+-- the words that are told of say what is inherited, and so do those that said it before
+pub record Handed (t : Tree) (lands : List ℕ) (Told : ℕ → ℕ → Type 0) (old new : List ℕ) : Type 0 where
+  pub told : (m x : ℕ) → x < commands → Told m x → Inherited t lands new m x
+  pub kept : (m x : ℕ) → x < commands → Inherited t lands old m x → Inherited t lands new m x
+
+-- those of machine m; those of node n's machine and all above it
+abbrev pub HandedTo : Tree → List ℕ → ℕ → List ℕ → List ℕ → Type 0
+HandedTo t lands m = Handed t lands (λ p x. p ≡ m)
+
+abbrev pub HandedAbove : Tree → List ℕ → ℕ → List ℕ → List ℕ → Type 0
+HandedAbove t lands n = Handed t lands (λ p x. over t p n ≡ true)
+
+-- the lists that the tables are filled from: where the nodes land, and what the opened machines inherit
+pub record Prepared (t : Tree) (opened : ℕ → Bool) (lands up : List ℕ) : Type 0 where
+  pub landings : Landings t opened lands
+  pub room : UpRoom up
+  pub inherited : (m : ℕ) → opened m ≡ true → OwnRow t lands up m
+
 -- ---- the tables
+
+-- the move by what is found from a node that is left at this cost, if it is
+abbrev pub leaves : Option ℕ → Option Transition → Option Arrival
+leaves exit way = exit >>= λ e. way >>= λ a. some (record { node = a .target; cost = e + a .cost })
+
+-- the move of node n for x, by the nodes where its targets land
+unfoldable pub landMove : Tree → Rows → List ℕ → ℕ → ℕ → Option Arrival
+landMove t r lands n x = leaves (nodeExit t r n x) (finds t lands n x)
+
+-- the move that two words of the tables say
+abbrev pub entryMove : ℕ → ℕ → Option Arrival
+entryMove v c = number v >>= λ w. some (record { node = w; cost = c })
+
+-- a transition's word whose target, if it says one, is a node
+abbrev pub InNodes : ℕ → Type 0
+InNodes w = (a : Transition) → transitionOf w ≡ some a → a .target < nodes
 
 -- the moves that the tables hold: those of the nodes in opened machines
 unfoldable pub openMove : Tree → Rows → (ℕ → Bool) → ℕ → ℕ → Option Arrival

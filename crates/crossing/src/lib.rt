@@ -1,21 +1,28 @@
 // The search of a plan (document 01, "Exit, step and plan"): the machines above two nodes are opened, the tables take the moves between
 // their nodes, with exit costs for what lies below, and the least costs over them are one search's. A node's place is its number.
 ghost use mathlib.Core.Path.{_≡_};
-ghost use mathlib.Core.Option.{none, some};
+ghost use mathlib.Core.Option.{some};
 ghost use Prim.Native.Nat.{ℕ, _<_};
 ghost use lib.ListN.{length};
 ghost use Rattle.definitions.specs.Limits.{machines, nodes, commands};
-ghost use Rattle.definitions.specs.Book.{treeOf, WellFormed};
+ghost use Rattle.definitions.specs.Tree.{Tree};
+ghost use Rattle.definitions.specs.Book.{treeOf, transitionOf, WellFormed};
 ghost use Rattle.definitions.specs.Sheet.{rowsOf};
-ghost use Rattle.plantheory.specs.Search.{land, planMove};
-ghost use Rattle.search.specs.Search.{rowMove};
-ghost use Rattle.truesheet.specs.Meaning.{exitLimit};
+ghost use Rattle.plantheory.specs.Search.{openedFor, land};
+ghost use Rattle.truesheet.specs.Meaning.{exitOf, exitLimit, Exits};
 ghost use Rattle.truesheet.specs.Fits.{Holding};
 ghost use Rattle.stepping.specs.Meaning.{Used};
 ghost use Rattle.crossing.specs.Crossing.{Crossable, CrossRoom, Crossed};
-ghost use Rattle.crossing.specs.Parts.{isOpen, Opens, inOpened, openMove, TableRoom, BlankRow, EntryFilled, RowFilled, Tabled};
-use stepping::Climbed;
+ghost use Rattle.crossing.specs.Parts.{isOpen, Opens, inOpened, OpenedFor, NodeList, Itself, LandedAbove, Landings};
+ghost use Rattle.crossing.specs.Parts.{finds, leaves, landMove, UpRoom, RowAbove, OwnRow, RootRow, HandedTo, HandedAbove, Prepared};
+ghost use Rattle.crossing.specs.Parts.{entryMove, InNodes, openMove, TableRoom, BlankRow, EntryFilled, RowFilled, Tabled};
 use truesheet::OwnExit;
+
+// A move: the node where it leads, ABSENT where there is none, and what it costs.
+struct Move {
+    target: u32,
+    price: u64,
+}
 
 // The number in 64 bits.
 fn wide(x: u32) -> u64
@@ -71,62 +78,165 @@ fn land(book: &[u32], opened: &[u32], v: u32) -> u32
     }
 }
 
-// Fills the entry of node n for command x, which has no move yet: the exit cost of n and the transition that x finds from n lead to
-// where its target lands.
+// Writes for every node the node itself.
+fn itself(lands: &mut [u32])
+    requires { ⌜ length (now lands) ≡ nodes ⌝ }
+    ensures { λ _. ⌜ Itself (now (lands .exit)) ⌝ }
+{
+    let mut v = 0u32;
+    while v < book::NODES {
+        lands[v as usize] = v;
+        v += 1;
+    }
+}
+
+// Writes where the nodes land that hold the machine of node s and those above it.
+fn land_above(book: &[u32], opened: &[u32], s: u32, lands: &mut [u32])
+    requires { ⌜ WellFormed (now book) × (length (now opened) ≡ machines) × Used (treeOf (now book)) s × (length (now lands) ≡ nodes) ⌝ }
+    ensures { λ _. ⌜ LandedAbove (treeOf (now (book .entry))) (isOpen (now (opened .entry))) s (now (lands .entry)) (now (lands .exit)) ⌝ }
+{
+    let mut n = s;
+    loop {
+        let h = book::holder(book, book::owner(book, n));
+        if h == book::ABSENT {
+            return;
+        }
+        lands[h as usize] = land(book, opened, h);
+        n = h;
+    }
+}
+
+// Writes for every node where it lands, the machines above a and b being opened: only the nodes that hold these do not land where they are.
+fn landings(book: &[u32], opened: &[u32], a: u32, b: u32, lands: &mut [u32])
+    requires { ⌜ WellFormed (now book) × (length (now opened) ≡ machines) × Used (treeOf (now book)) a × Used (treeOf (now book)) b
+        × OpenedFor (treeOf (now book)) a b (now opened) × (length (now lands) ≡ nodes) ⌝ }
+    ensures { λ _. ⌜ Landings (treeOf (now (book .entry))) (isOpen (now (opened .entry))) (now (lands .exit)) ⌝ }
+{
+    itself(lands);
+    land_above(book, opened, a, lands);
+    land_above(book, opened, b, lands);
+}
+
+// What command x finds from node n of machine m, as a transition's word whose target is where the one found lands: the transition of n,
+// or else what m inherits.
+fn find(book: &[u32], lands: &[u32], up: &[u32], m: u32, n: u32, x: u32) -> u32
+    requires { ⌜ WellFormed (now book) × NodeList (now lands) × UpRoom (now up) × (treeOf (now book) .owner n ≡ some m) × (x < commands)
+        × OwnRow (treeOf (now book)) (now lands) (now up) m ⌝ }
+    ensures { λ r. ⌜ transitionOf r ≡ finds (treeOf (now (book .entry))) (now (lands .entry)) n x ⌝ }
+{
+    let w = book::transition(book, n, x);
+    let own = lands[(w / 65536 % 256) as usize] * 65536 + w % 65536;
+    let inherited = up[(book::COMMANDS * m + x) as usize];
+    if w == book::BLANK { inherited } else { own }
+}
+
+// Writes what machine m, held by node h, inherits; the row of the machine above it is written.
+fn inherit(book: &[u32], lands: &[u32], m: u32, h: u32, up: &mut [u32])
+    requires { ⌜ WellFormed (now book) × NodeList (now lands) × UpRoom (now up) × (treeOf (now book) .holder m ≡ some h)
+        × RowAbove (treeOf (now book)) (now lands) (now up) h ⌝ }
+    ensures { λ _. ⌜ HandedTo (treeOf (now (book .entry))) (now (lands .entry)) m (now (up .entry)) (now (up .exit)) ⌝ }
+{
+    let p = book::owner(book, h);
+    let mut x = 0u32;
+    while x < book::COMMANDS {
+        let w = find(book, lands, up, p, h, x);
+        up[(book::COMMANDS * m + x) as usize] = w;
+        x += 1;
+    }
+}
+
+// Writes what the machine of node n and all above it inherit, from the root down; the root's row is written.
+fn inherit_above(book: &[u32], lands: &[u32], n: u32, up: &mut [u32])
+    requires { ⌜ WellFormed (now book) × NodeList (now lands) × UpRoom (now up) × Used (treeOf (now book)) n
+        × RootRow (treeOf (now book)) (now lands) (now up) ⌝ }
+    ensures { λ _. ⌜ HandedAbove (treeOf (now (book .entry))) (now (lands .entry)) n (now (up .entry)) (now (up .exit)) ⌝ }
+{
+    let m = book::owner(book, n);
+    let h = book::holder(book, m);
+    if h == book::ABSENT {
+        return;
+    }
+    inherit_above(book, lands, h, up);
+    inherit(book, lands, m, h, up);
+}
+
+// The move of a node with this exit cost from which the transition of word w is found. The word for none has ABSENT for target.
+fn priced(exit: OwnExit, w: u32) -> Move
+    requires { ⌜ Exits (exitOf exit) exit × InNodes w ⌝ }
+    ensures { λ r. ⌜ entryMove (r .target) (r .price) ≡ leaves (exitOf exit) (transitionOf w) ⌝ }
+{
+    match exit {
+        OwnExit::Costs(e) => Move {
+            target: w / 65536,
+            price: e + wide(w % 65536),
+        },
+        OwnExit::Never => Move {
+            target: book::ABSENT,
+            price: 0,
+        },
+    }
+}
+
+// Fills the entry of node n of machine m for command x.
 fn entry(
     book: &[u32],
     sheet: &[u32],
-    opened: &[u32],
+    lands: &[u32],
+    up: &[u32],
+    m: u32,
     n: u32,
     x: u32,
     target: &mut [u32],
     price: &mut [u64],
 )
-    requires { ⌜ Holding (now book) (now sheet) × (length (now opened) ≡ machines) × Used (treeOf (now book)) n × (x < commands)
-        × TableRoom (now target) (now price) × (rowMove (now target) (now price) n x ≡ none) ⌝ }
-    ensures { λ _. ⌜ EntryFilled (planMove (treeOf (now (book .entry))) (rowsOf (now (sheet .entry))) (isOpen (now (opened .entry))) n x) n x
+    requires { ⌜ Holding (now book) (now sheet) × NodeList (now lands) × UpRoom (now up) × (treeOf (now book) .owner n ≡ some m) × (x < commands)
+        × OwnRow (treeOf (now book)) (now lands) (now up) m × TableRoom (now target) (now price) ⌝ }
+    ensures { λ _. ⌜ EntryFilled (landMove (treeOf (now (book .entry))) (rowsOf (now (sheet .entry))) (now (lands .entry)) n x) n x
         (now (target .entry)) (now (price .entry)) (now (target .exit)) (now (price .exit)) ⌝ }
 {
-    let OwnExit::Costs(exit) = truesheet::own_exit(book, sheet, n, x) else {
-        return;
-    };
-    let Climbed::Found {
-        node: _,
-        target: found,
-        cost,
-    } = stepping::climb(book, n, x)
-    else {
-        return;
-    };
+    let w = find(book, lands, up, m, n, x);
+    let found = priced(truesheet::own_exit(book, sheet, n, x), w);
     let i = (book::COMMANDS * n + x) as usize;
-    target[i] = land(book, opened, found);
-    price[i] = exit + wide(cost);
+    target[i] = found.target;
+    price[i] = found.price;
 }
 
-// Fills the row of node n, which has no move yet.
-fn row(book: &[u32], sheet: &[u32], opened: &[u32], n: u32, target: &mut [u32], price: &mut [u64])
-    requires { ⌜ Holding (now book) (now sheet) × (length (now opened) ≡ machines) × Used (treeOf (now book)) n
-        × TableRoom (now target) (now price) × BlankRow n (now target) (now price) ⌝ }
-    ensures { λ _. ⌜ RowFilled (planMove (treeOf (now (book .entry))) (rowsOf (now (sheet .entry))) (isOpen (now (opened .entry))) n) n
-        (now (target .entry)) (now (price .entry)) (now (target .exit)) (now (price .exit)) ⌝ }
-{
-    let mut x = 0u32;
-    while x < book::COMMANDS {
-        entry(book, sheet, opened, n, x, target, price);
-        x += 1;
-    }
-}
-
-// Fills the row of node n if it belongs to an opened machine; it has no move yet.
-fn row_if_opened(
+// Fills the row of node n.
+fn row(
     book: &[u32],
     sheet: &[u32],
-    opened: &[u32],
+    lands: &[u32],
+    up: &[u32],
     n: u32,
     target: &mut [u32],
     price: &mut [u64],
 )
-    requires { ⌜ Holding (now book) (now sheet) × (length (now opened) ≡ machines) × (n < nodes)
+    requires { ⌜ Holding (now book) (now sheet) × NodeList (now lands) × UpRoom (now up) × Used (treeOf (now book)) n
+        × RowAbove (treeOf (now book)) (now lands) (now up) n × TableRoom (now target) (now price) ⌝ }
+    ensures { λ _. ⌜ RowFilled (landMove (treeOf (now (book .entry))) (rowsOf (now (sheet .entry))) (now (lands .entry)) n) n
+        (now (target .entry)) (now (price .entry)) (now (target .exit)) (now (price .exit)) ⌝ }
+{
+    let m = book::owner(book, n);
+    let mut x = 0u32;
+    while x < book::COMMANDS {
+        entry(book, sheet, lands, up, m, n, x, target, price);
+        x += 1;
+    }
+}
+
+// Fills the row of node n if it belongs to an opened machine; else it has no move, before and after.
+fn row_if_opened(
+    book: &[u32],
+    sheet: &[u32],
+    opened: &[u32],
+    lands: &[u32],
+    up: &[u32],
+    n: u32,
+    target: &mut [u32],
+    price: &mut [u64],
+)
+    requires { ⌜ Holding (now book) (now sheet) × (length (now opened) ≡ machines)
+        × Prepared (treeOf (now book)) (isOpen (now opened)) (now lands) (now up) × (n < nodes)
         × TableRoom (now target) (now price) × BlankRow n (now target) (now price) ⌝ }
     ensures { λ _. ⌜ RowFilled (openMove (treeOf (now (book .entry))) (rowsOf (now (sheet .entry))) (isOpen (now (opened .entry))) n) n
         (now (target .entry)) (now (price .entry)) (now (target .exit)) (now (price .exit)) ⌝ }
@@ -134,21 +244,48 @@ fn row_if_opened(
     if !in_opened(book, opened, n) {
         return;
     }
-    row(book, sheet, opened, n, target, price);
+    row(book, sheet, lands, up, n, target, price);
 }
 
 // Fills the tables, which have no move yet, with the moves of the nodes in opened machines.
-fn tables(book: &[u32], sheet: &[u32], opened: &[u32], target: &mut [u32], price: &mut [u64])
-    requires { ⌜ Holding (now book) (now sheet) × (length (now opened) ≡ machines) × TableRoom (now target) (now price)
-        × ((n : ℕ) → n < nodes → BlankRow n (now target) (now price)) ⌝ }
+fn rows(
+    book: &[u32],
+    sheet: &[u32],
+    opened: &[u32],
+    lands: &[u32],
+    up: &[u32],
+    target: &mut [u32],
+    price: &mut [u64],
+)
+    requires { ⌜ Holding (now book) (now sheet) × (length (now opened) ≡ machines)
+        × Prepared (treeOf (now book)) (isOpen (now opened)) (now lands) (now up)
+        × TableRoom (now target) (now price) × ((n : ℕ) → n < nodes → BlankRow n (now target) (now price)) ⌝ }
     ensures { λ _. ⌜ Tabled (openMove (treeOf (now (book .entry))) (rowsOf (now (sheet .entry))) (isOpen (now (opened .entry))))
         (now (target .exit)) (now (price .exit)) ⌝ }
 {
     let mut n = 0u32;
     while n < book::NODES {
-        row_if_opened(book, sheet, opened, n, target, price);
+        row_if_opened(book, sheet, opened, lands, up, n, target, price);
         n += 1;
     }
+}
+
+// Fills the tables, which have no move yet, with the moves of the nodes in the machines above a and b.
+fn tables(book: &[u32], sheet: &[u32], a: u32, b: u32, target: &mut [u32], price: &mut [u64])
+    requires { ⌜ Holding (now book) (now sheet) × Used (treeOf (now book)) a × Used (treeOf (now book)) b
+        × TableRoom (now target) (now price) × ((n : ℕ) → n < nodes → BlankRow n (now target) (now price)) ⌝ }
+    ensures { λ _. ⌜ Tabled (openMove (treeOf (now (book .entry))) (rowsOf (now (sheet .entry))) (openedFor (treeOf (now (book .entry))) a b))
+        (now (target .exit)) (now (price .exit)) ⌝ }
+{
+    let mut opened = [0u32; 64];
+    open_above(book, a, &mut opened);
+    open_above(book, b, &mut opened);
+    let mut lands = [0u32; 256];
+    landings(book, &opened, a, b, &mut lands);
+    let mut up = [book::BLANK; 1024];
+    inherit_above(book, &lands, a, &mut up);
+    inherit_above(book, &lands, b, &mut up);
+    rows(book, sheet, &opened, &lands, &up, target, price);
 }
 
 // Searches from state a over the machines above a and b, up to b: leaves the distances and names of the nodes. The book is well formed, its sheet
@@ -166,12 +303,9 @@ pub fn cross(
     ensures { λ _. ⌜ Crossed (treeOf (now (book .entry))) (rowsOf (now (sheet .entry))) a b
         (now (dist .exit)) (now (before .exit)) (now (by .exit)) ⌝ }
 {
-    let mut opened = [0u32; 64];
-    open_above(book, a, &mut opened);
-    open_above(book, b, &mut opened);
     let mut target = [search::ABSENT; 4096];
     let mut price = [0u64; 4096];
-    tables(book, sheet, &opened, &mut target, &mut price);
+    tables(book, sheet, a, b, &mut target, &mut price);
     search::search(
         book::NODES as usize,
         a as usize,

@@ -1,25 +1,11 @@
--- `crossing::cross` meets its contract: the machines above both nodes are opened, the tables take their moves, and the rest is the search's.
--- Assumes nothing.
+-- `crossing::cross` meets its contract: the tables take the moves, and the rest is the search's. Assumes nothing.
 use mathlib.Core.Path.{refl}
 use native.Mathlib.Omega.{arith}
 use borrow.Author.Needs.{needs}
-use Rattle.crossing.proofs.Opening.{closed}
 use Rattle.crossing.proofs.Tabling.{blank-tables}
 use Rattle.crossing.proofs.Searched.{cross-ready, cross-done}
 use Rattle.crossing.proofs.cross.Statement.{statement}
 use Rattle.crossing.proofs.cross.Tie as tie
-
-slice-aggregate-open-above : tie.Need-slice-aggregate-open-above
-slice-aggregate-open-above c = search needs
-
-open-above-requires : tie.Need-open-above-requires
-open-above-requires c κs = search needs
-
-slice-aggregate-open-above-2 : tie.Need-slice-aggregate-open-above-2
-slice-aggregate-open-above-2 c = search needs
-
-open-above-requires-2 : tie.Need-open-above-requires-2
-open-above-requires-2 c κs = search needs
 
 slice-aggregate-tables : tie.Need-slice-aggregate-tables
 slice-aggregate-tables c = search needs
@@ -27,15 +13,12 @@ slice-aggregate-tables c = search needs
 slice-aggregate-tables-2 : tie.Need-slice-aggregate-tables-2
 slice-aggregate-tables-2 c = search needs
 
-slice-aggregate-tables-3 : tie.Need-slice-aggregate-tables-3
-slice-aggregate-tables-3 c = search needs
-
 tables-requires : tie.Need-tables-requires
 tables-requires c κs =
-    let e = c .before .before .before .before .before .before .before .before .before .before .before .before .before .before in
-    let able = e .pre .0 in (
+    let able = c .before .before .before .before .before .before .before .pre .0 in (
       record { well-formed = able .well-formed; long = able .true-sheet .length },
-      search needs,
+      able .from-used,
+      able .to-used,
       record { target-room = refl; price-room = refl },
       blank-tables 4096 _ (omega arith),
     )
@@ -52,13 +35,10 @@ slice-aggregate-search-2 c = search needs
 search-requires : tie.Need-search-requires
 search-requires c κs =
     let filled = c .before .before .before .before .before .before .before in
-    let two = filled .before .before .before .before .before in
-    let one = two .before .before .before in
-    let e = one .before .before .before .before .before .before .before in
-    let kept = filled .tables .kept .1 .1 .1 in
+    let e = c .before .before .before .before .before .before .before .before .before .before .before .before .before .before .before in
+    let kept = filled .tables .kept .1 .1 .1 .1 in
     let room = e .pre .1 in (
-      cross-ready (e .pre .0) (closed 64) (one .open-above .ensures) (two .open-above2 .ensures) (filled .tables .ensures)
-          (record { target-room = kept .0; price-room = kept .1 .0 }),
+      cross-ready (e .pre .0) (filled .tables .ensures) (record { target-room = kept .0; price-room = kept .1 .0 }),
       record { dist-room = omega (arith, room .dist-room); before-room = omega (arith, room .before-room); by-room = omega (arith, room .by-room) },
     )
 
@@ -75,12 +55,10 @@ returns : tie.Need-returns
 returns c =
     let done = c .before .before .before .before .before .before in
     let filled = done .before .before .before .before .before .before .before .before in
-    let two = filled .before .before .before .before .before in
-    let one = two .before .before .before in
-    let e = one .before .before .before .before .before .before .before in
+    let e = c .before .before .before .before .before .before .before .before .before .before .before .before .before .before .before .before .before .before .before .before .before .before in
     let kept = done .search .kept .1 .1 .1 .1 .1 in
     let room = e .pre .1 in
-    cross-done (e .pre .0) (closed 64) (one .open-above .ensures) (two .open-above2 .ensures) (filled .tables .ensures)
+    cross-done (e .pre .0) (filled .tables .ensures)
     (record {
       dist-room = omega (arith, kept .0, room .dist-room);
       before-room = omega (arith, kept .1 .0, room .before-room);
@@ -92,13 +70,8 @@ pub cross-spec : {M : Type 1} → statement M
 cross-spec =
     tie.close
     (tie.spec
-    slice-aggregate-open-above
-    open-above-requires
-    slice-aggregate-open-above-2
-    open-above-requires-2
     slice-aggregate-tables
     slice-aggregate-tables-2
-    slice-aggregate-tables-3
     tables-requires
     cast-search
     slice-aggregate-search

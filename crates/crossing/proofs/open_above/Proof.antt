@@ -6,7 +6,8 @@ use lib.ListN.{length-set}
 use denote.Ref.{now}
 use Rattle.definitions.specs.Tree.{level}
 use Rattle.definitions.specs.Book.{treeOf}
-use Rattle.crossing.proofs.Opening.{Walking, walk-starts, hand-range, machine-range, machine-room, walk-ends, walk-on, walk-higher}
+use Rattle.crossing.proofs.Upward.{higher}
+use Rattle.crossing.proofs.Opening.{Walking, walk-starts, hand-range, machine-range, machine-room, walk-ends, walk-on}
 use Rattle.crossing.proofs.open_above.Statement.{statement}
 use Rattle.crossing.proofs.open_above.Tie as tie
 
@@ -61,7 +62,7 @@ loop-less c =
     let o = c .before .before in
     let l = o .before in
     let e = l .before .before .before in
-    walk-higher (now (e .args .book)) (e .pre .0) (l .loop .inv) (o .owner .ensures) (c .before .holder .ensures) (c .if1 .left)
+    higher (now (e .args .book)) (e .pre .0) (l .loop .n) (l .loop .inv .used) (o .owner .ensures) (c .before .holder .ensures) (c .if1 .left)
 
 loop-again : tie.Need-loop-again Inv-loop μ-loop
 loop-again c =

@@ -1,0 +1,81 @@
+-- `crossing::find` meets its contract: the node's own transition, its target landed, or what the machine inherits. Assumes nothing.
+use Prim.Native.Nat.{_/_, _%_}
+use native.Mathlib.Omega.{arith}
+use denote.Ref.{now}
+use borrow.Author.Needs.{needs}
+use Rattle.definitions.specs.Book.{treeOf}
+use Rattle.definitions.proofs.Words.{owner-range}
+use Rattle.crossing.proofs.Inheriting.{find-inherited, find-own}
+use Rattle.crossing.proofs.find.Statement.{statement}
+use Rattle.crossing.proofs.find.Tie as tie
+
+transition-requires : tie.Need-transition-requires
+transition-requires c κs =
+    let e = c .before .before .before in
+    (e .pre .0 .length, owner-range (treeOf (now (e .args .book))) (e .pre .0 .sound) (e .args .n) (e .args .m) (e .pre .3) .0, e .pre .4)
+
+cast-own : tie.Need-cast-own
+cast-own c = search needs
+
+mul-own : tie.Need-mul-own
+mul-own c = search needs
+
+shared-slice-read-own : tie.Need-shared-slice-read-own
+shared-slice-read-own c = search needs
+
+mul-own-2 : tie.Need-mul-own-2
+mul-own-2 c = omega (arith, c .before .before .before .before .before .pre .1 .inside (c .before .transition .result / 65536 % 256) (omega arith))
+
+add-own : tie.Need-add-own
+add-own c = omega (arith, c .before .before .before .before .before .pre .1 .inside (c .before .transition .result / 65536 % 256) (omega arith))
+
+mul-inherited : tie.Need-mul-inherited
+mul-inherited c =
+    let e = c .before .before .before .before .before in
+    omega (arith, owner-range (treeOf (now (e .args .book))) (e .pre .0 .sound) (e .args .n) (e .args .m) (e .pre .3) .1)
+
+add-inherited : tie.Need-add-inherited
+add-inherited c =
+    let e = c .before .before .before .before .before in
+    omega (arith, owner-range (treeOf (now (e .args .book))) (e .pre .0 .sound) (e .args .n) (e .args .m) (e .pre .3) .1, e .pre .4)
+
+cast-inherited : tie.Need-cast-inherited
+cast-inherited c = search needs
+
+mul-inherited-2 : tie.Need-mul-inherited-2
+mul-inherited-2 c = search needs
+
+shared-slice-read-inherited : tie.Need-shared-slice-read-inherited
+shared-slice-read-inherited c =
+    let e = c .before .before .before .before .before .before in
+    omega (arith, owner-range (treeOf (now (e .args .book))) (e .pre .0 .sound) (e .args .n) (e .args .m) (e .pre .3) .1, e .pre .2, e .pre .4)
+
+returns : tie.Need-returns
+returns c =
+    let e = c .before .before .before .before .before .before .before in
+    find-inherited (now (e .args .book)) (e .pre .0) (now (e .args .lands)) (e .args .n) (e .args .x) (e .pre .3) (c .before .before .before .transition .ensures)
+    (c .if1 .taken) _ (e .pre .5 (e .args .x) (e .pre .4))
+
+returns-2 : tie.Need-returns-2
+returns-2 c =
+    let e = c .before .before .before .before .before .before .before in
+    find-own (now (e .args .book)) (e .pre .0) (now (e .args .lands)) (e .args .n) (e .args .x) (e .pre .3) (c .before .before .before .transition .ensures) (e .pre .1)
+    (c .if1 .left)
+
+pub find-spec : {M : Type 1} → statement M
+find-spec =
+    tie.close
+    (tie.spec
+    transition-requires
+    cast-own
+    mul-own
+    shared-slice-read-own
+    mul-own-2
+    add-own
+    mul-inherited
+    add-inherited
+    cast-inherited
+    mul-inherited-2
+    shared-slice-read-inherited
+    returns
+    returns-2)
