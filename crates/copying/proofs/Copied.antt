@@ -1,5 +1,5 @@
 -- What Write and Load say together of a copy. Assumes nothing.
-use mathlib.Core.Path.{_≡_, refl, sym, _∙_, ap}
+use mathlib.Core.Path.{_≡_, refl, ap}
 use mathlib.Core.Logic.{inl, inr}
 use mathlib.Core.List.{List, [], _∷_, List-discrete}
 use Prim.Native.Nat.{ℕ, _≤_}

@@ -1,5 +1,4 @@
 // A book copied by its stream (the customer's demand 2): what Write gives, loaded into another holding, is the same book there.
-ghost use Rattle.definitions.specs.Calls.{LoadSays};
 ghost use Rattle.writing.specs.Meaning.{answerOf};
 ghost use Rattle.copying.specs.Copy.{CopySays};
 use writing::WriteAnswer;

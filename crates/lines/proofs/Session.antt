@@ -8,10 +8,10 @@ use lib.Seq.{drop-drop, drop-length}
 use Rattle.definitions.specs.Limits.{longestInput}
 use Rattle.definitions.specs.Tree.{Tree}
 use Rattle.definitions.specs.Sheet.{Rows}
-use Rattle.definitions.specs.Stream.{ended, taken}
+use Rattle.definitions.specs.Stream.{ended}
 use Rattle.definitions.specs.Edit.{treeAfter}
 use Rattle.definitions.specs.Open.{freshTree, openRows}
-use Rattle.definitions.specs.Session.{Request, stream, plan, planSize, stopLine, request, Prints, finished, does, SessionPrints}
+use Rattle.definitions.specs.Session.{Request, stream, planSize, stopLine, request, Prints, finished, does, SessionPrints}
 use Rattle.definitions.specs.Session.{stops as prints-stop, plans as prints-plan}
 use Rattle.lines.specs.Turn.{Takes, here, on, Given, line, end, Gives, finishes, stops, plans, Turns, Repeats, over, again}
 use Rattle.lines.proofs.Turns.{request-end}

@@ -7,7 +7,7 @@ use Prim.Native.Nat.{ℕ, suc, _+_, _-_, _≤_, _<_}
 use native.Mathlib.Numerals.{add-one}
 use native.Mathlib.Omega.{arith}
 use lib.Dec.{ltb}
-use lib.ListN.{length, take, drop, length-drop, drop-of-length-le}
+use lib.ListN.{length, drop, length-drop, drop-of-length-le}
 use lib.Seq.{drop-cons}
 use borrow.Author.Tests.{eq-eqb, ne-eqb, le-leb, lt-leb, ltb-true, ltb-false}
 use Rattle.definitions.specs.Tree.{Tree}
@@ -17,12 +17,12 @@ use Rattle.definitions.specs.Truth.{TrueSheet}
 use Rattle.definitions.specs.Stream.{Command, Next, ended, taken, refused, operandLength, byteAt, pairAt}
 use Rattle.definitions.specs.Edit.{treeAfter, RowsAfter}
 use Rattle.definitions.specs.Load.{Outcome, next, stopped, load}
-use Rattle.definitions.specs.Session.{stream, plan, planSize, readPlan, request, stopLine}
+use Rattle.definitions.specs.Session.{stream, plan, planSize, readPlan, request}
 use Rattle.definitions.proofs.Options.{none-some}
-use Rattle.definitions.proofs.Streams.{next-nothing, next-taken, next-refused, next-ended, next-size, read-taken, load-end, load-refused, load-taken}
+use Rattle.definitions.proofs.Streams.{ended-refused, next-nothing, next-taken, next-refused, next-ended, next-size, read-taken, load-end, load-refused, load-taken}
 use Rattle.loading.specs.Loading.{TookNext, Stays}
-use Rattle.lines.specs.Turn.{Takes, here, on, line, end, finishes, stops, plans}
-use Rattle.lines.specs.Meaning.{Written, PlanWritten, Taken, Halted, Fits, Stopped, Answered, TurnSays}
+use Rattle.lines.specs.Turn.{Takes, here, on, end, finishes, stops, plans}
+use Rattle.lines.specs.Meaning.{PlanWritten, Taken, Halted, Fits, Stopped, Answered, TurnSays}
 use Rattle.lines.specs.declared.Turn.{Turn}
 use Rattle.lines.specs.declared.Turn.the-variants.{Line, End}
 
@@ -114,25 +114,12 @@ taken-halts {input} {b} {s} {at} {to} {b′} {s′} before {k} stays =
 
 -- ---- what is given where they end
 
--- the end is no refusal
-ended-refused : {x : Next} {k : ℕ} → x ≡ ended → x ≡ refused k → ⊥
-ended-refused p q = let z : _≡_ {A = ℕ} 0 1 = cc in omega arith
-
 -- what lies further on than an offset lies further on than one before it
 fits-earlier : (input : List ℕ) {at to : ℕ} (list : List ℕ) (turn : Turn) (list′ : List ℕ) → at ≤ to → Fits input to list turn list′ → Fits input at list turn list′
 fits-earlier input list (Line size next) list′ before fits = (omega arith, fits .1, fits .2, fits .3)
 fits-earlier input list End list′ before fits = fits
 
--- the line of a refused command
-pub line-stopped : {input : List ℕ} {at number : ℕ} {list : List ℕ} {size : ℕ} {list′ : List ℕ} → at < length input
-    → Written list (stopLine number at) size list′ → Stopped input at number list (Line size (length input)) list′
-line-stopped {input} inside written =
-    record {
-      given = ap (λ (l : List ℕ). line l (length input)) (written .front);
-      fits = (inside, omega arith, written .room, written .rest);
-    }
-
--- it is given where the command stands
+-- the line of a refused command is given where the command stands
 stopped-answers : {input b s : List ℕ} {at k : ℕ} {list : List ℕ} {turn : Turn} {list′ : List ℕ}
     → request (treeOf b) (drop at input) ≡ stream (refused k) → Stopped input at k list turn list′ → Answered input b s at list turn list′
 stopped-answers {k = k} e stopped = record { gives = rw (stopped .given) (stops k e); fits = stopped .fits }

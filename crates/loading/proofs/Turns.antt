@@ -1,9 +1,10 @@
 -- A stream, command by command: what becomes of the next one, and what then stands. Assumes nothing.
 use mathlib.Core.Path.{_≡_, refl, sym, _∙_, ap, subst}
-use mathlib.Core.List.{List, [], _∷_}
-use Prim.Native.Nat.{ℕ, zero, suc, _+_, _≤_, _<_}
+use mathlib.Core.List.{List}
+use Prim.Native.Nat.{ℕ, suc, _+_, _≤_, _<_}
 use native.Mathlib.Omega.{arith}
-use lib.ListN.{length, drop, length-drop, drop-of-length-le}
+use lib.ListN.{length, drop, length-drop}
+use lib.Seq.{drop-drop}
 use Rattle.definitions.specs.Tree.{Tree}
 use Rattle.definitions.specs.Book.{treeOf, WellFormed}
 use Rattle.definitions.specs.Sheet.{Rows, rowsOf}
@@ -54,12 +55,6 @@ pub turned-stays : {b s bytes : List ℕ} {r : Turn} {k : ℕ} {b′ s′ : List
 turned-stays {b} {s} {bytes} {b′ = b′} {s′ = s′} told turned = subst (λ (r : Turn). Turned b s bytes r b′ s′) told turned
 
 -- ---- the whole stream
-
--- bytes dropped in two goes
-drop-drop : (i k : ℕ) (l : List ℕ) → drop k (drop i l) ≡ drop (i + k) l
-drop-drop zero k l = let e : 0 + k ≡ k = omega arith in rw e
-drop-drop (suc i) k [] = drop-of-length-le [] {i = k} (omega arith) ∙ sym (drop-of-length-le [] {i = suc i + k} (omega arith))
-drop-drop (suc i) k (x ∷ xs) = let e : suc i + k ≡ suc (i + k) = omega arith in rw e (drop-drop i k xs)
 
 -- one command before what the rest leaves
 done-more : (t : Tree) {r mid : Rows} (c : Meant) (size : ℕ) (o : Outcome) {a : LoadAnswer} {b s : List ℕ} → RowsAfter t c r mid
@@ -116,7 +111,7 @@ module _ {b s stream : List ℕ} where
           counted = omega (arith, range .0, under .counted);
           rest = λ a b‴ s‴ done.
               let on : LoadDone (treeAfter t c) (rowsOf s″) (load (treeAfter t c) (drop size (drop bytes stream))) a b‴ s‴ =
-              rw (← (took .done .tree), drop-drop bytes size stream) done in
+              rw (← (took .done .tree), drop-drop size bytes stream) done in
               let whole : LoadDone t (rowsOf s′) (load t (drop bytes stream)) (joined size 1 a) b‴ s‴ =
               rw (load-taken t (drop bytes stream) (took .stands)) (done-more t c size (load (treeAfter t c) (drop size (drop bytes stream))) (took .done .rows) on) in
               subst (λ (x : LoadAnswer). LoadDone (treeOf b) (rowsOf s) (load (treeOf b) stream) x b‴ s‴) (joined-twice bytes count size 1 a)

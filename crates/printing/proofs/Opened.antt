@@ -1,15 +1,13 @@
 -- What Open fresh leaves is a well-formed book and a true sheet. Assumes nothing.
 use mathlib.Core.Path.{_≡_, refl}
 use mathlib.Core.Logic.{inl, inr}
-use mathlib.Core.Bool.{true}
-use mathlib.Core.Option.{some}
 use mathlib.Core.List.{List}
 use Prim.Native.Nat.{ℕ}
 use lib.ListN.{length}
-use Rattle.definitions.specs.Limits.{machines, bookLength, sheetLength}
+use Rattle.definitions.specs.Limits.{bookLength, sheetLength}
 use Rattle.definitions.specs.Tree.{Tree, Sound}
-use Rattle.definitions.specs.Book.{treeOf, encode}
-use Rattle.definitions.specs.Sheet.{rowsOf, encodeRows}
+use Rattle.definitions.specs.Book.{encode}
+use Rattle.definitions.specs.Sheet.{encodeRows}
 use Rattle.definitions.specs.Open.{freshTree, openRows}
 use Rattle.definitions.specs.Calls.{OpenSays}
 use Rattle.definitions.proofs.Options.{none-some, isSome-true}

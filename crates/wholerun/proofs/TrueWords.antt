@@ -2,7 +2,7 @@
 use mathlib.Core.Path.{_≡_, refl, sym, _∙_, ap, subst}
 use mathlib.Core.Logic.{_⊎_, inl, inr, ⊎-elim}
 use mathlib.Core.Bool.{Bool, true, false, cond}
-use mathlib.Core.Option.{Option, none, some}
+use mathlib.Core.Option.{none, some}
 use Prim.Native.Nat.{ℕ, zero, suc, _+_, _*_, _-_, _≤_, _<_}
 use native.Mathlib.Omega.{arith}
 use lib.Dec.{ltb}
@@ -18,9 +18,9 @@ use Rattle.definitions.proofs.Options.{bind-some, none-some, some-same, true-fa
 use Rattle.definitions.proofs.Path.{parent-below}
 use Rattle.definitions.proofs.Simple.{exit-largest}
 use Rattle.definitions.proofs.LocalTruth.{filled-below, true-local, local-true}
-use Rattle.definitions.proofs.Words.{encodeRows-length, encodeRows-is, machine-row-word, node-row-word, under-in, InRange, rowsOf-encodeRows}
+use Rattle.definitions.proofs.Words.{under-some, encodeRows-length, encodeRows-is, machine-row-word, node-row-word, under-in, InRange, rowsOf-encodeRows}
 use Rattle.definitions.proofs.Tests.{rows-sheet}
-use Rattle.rows.proofs.Locality.{SameRow, same-row}
+use Rattle.rows.proofs.Locality.{same-machine, SameRow, same-row}
 use Rattle.refreshing.proofs.Bounds.{move-bound}
 
 -- rows as far as they speak of the commands that there are
@@ -34,15 +34,6 @@ commanded r =
       before = r .before;
       by = r .by;
     }
-
--- what is there under a limit is under it
-under-some : {A : Type 0} (limit i : ℕ) (o : Option A) {a : A} → under limit i o ≡ some a → (i < limit) × (o ≡ some a)
-unfolding under
-under-some limit i o {a} e = go (ltb i limit) refl
-  where
-    go : (b : Bool) → ltb i limit ≡ b → (i < limit) × (o ≡ some a)
-    go true small = (ltb-true i limit small, rw small at e)
-    go false large = absurd (none-some refl (rw large at e))
 
 -- they have the same words
 commanded-machine : (r : Rows) (m k : ℕ) → k < machineRowLength → machineRow r m k ≡ machineRow (commanded r) m k
@@ -88,14 +79,7 @@ module _ {t : Tree} (s : Sound t) {r : Rows} (rows : TrueRows t r) where
   commanded-row m =
       record {
         moves = record {
-          machine = record {
-            start = refl;
-            owned = λ n own. own;
-            owner = λ n own. own;
-            below = λ n own. refl;
-            counting = λ n x own range. refl;
-            leaving = λ n b own down. refl;
-          };
+          machine = same-machine t m;
           below = λ n b x own down range. under-in commands x (r .exit b x) range;
         };
         exit = λ x range. under-in commands x (r .exit m x) range;
