@@ -1,4 +1,4 @@
-// Document 01's examples that need no sheet's truth, run: the mast book's words are stored by hand, and each line says what a call answered.
+// Document 01's examples of calls on books, run: the mast book's words are stored by hand, and each line says what a call answered.
 use libc::STDOUT_FILENO;
 use stepping::StepAnswer;
 use writing::WriteAnswer;
@@ -10,7 +10,7 @@ fn line(text: &[u8], n: u32) {
     io::write_all(STDOUT_FILENO, b"\n");
 }
 
-// Writes two numbers with a space before each.
+// Writes a text, then two numbers with a space between, then a newline.
 fn pair(text: &[u8], a: u32, b: u32) {
     io::write_all(STDOUT_FILENO, text);
     io::print_decimal(STDOUT_FILENO, a as u64);
@@ -43,6 +43,7 @@ fn show_copy(text: &[u8], book: &[u32; 4737], out: &mut [u8; 72]) {
     );
 }
 
+// The number that a copy answers.
 fn copy(
     book: &[u32; 4737],
     out: &mut [u8; 72],
@@ -72,6 +73,7 @@ fn store_mast(book: &mut [u32; 4737]) {
     book[327] = 1;
 }
 
+// Writes the state and the cost of a step, or the refusal.
 fn show_step(text: &[u8], book: &[u32; 4737], state: u32, command: u32) {
     match stepping::step(book, state, command) {
         StepAnswer::Moved { state, cost } => pair(text, state, cost),
@@ -79,6 +81,7 @@ fn show_step(text: &[u8], book: &[u32; 4737], state: u32, command: u32) {
     }
 }
 
+// Writes the length that Write answers for the front of a list, or the refusal.
 fn write_front(text: &[u8], book: &[u32], out: &mut [u8], room: usize) {
     if out.len() < room {
         return;
@@ -89,10 +92,12 @@ fn write_front(text: &[u8], book: &[u32], out: &mut [u8], room: usize) {
     }
 }
 
+// The same for a list of 72 bytes.
 fn show_write(text: &[u8], book: &[u32; 4737], out: &mut [u8; 72], room: usize) {
     write_front(text, book, out, room);
 }
 
+// Writes the number that Choose leaves in its word, and the length of the part.
 fn show_choice<'a>(
     text: &[u8],
     book: &[u32; 4737],
@@ -116,6 +121,7 @@ fn tear(text: &[u8], book: &mut [u32; 4737], at: usize, word: u32) {
     }
 }
 
+// The number in 64 bits.
 fn wide(x: u8) -> u64 {
     x as u64
 }
@@ -138,12 +144,14 @@ fn open_short(book: &mut [u32], sheet: &mut [u32], words: usize) -> u32 {
     opening::open_fresh(&mut book[..words], sheet)
 }
 
+// Opens fresh, first with a book that is a word too short, which must stay as it is.
 fn show_open(book: &mut [u32; 4737], sheet: &mut [u32; 2880]) {
     line(b"open short: ", open_short(book, sheet, 4736));
     line(b"untouched: ", same(book, &[7u32; 4737]));
     line(b"open fresh: ", opening::open_fresh(book, sheet));
 }
 
+// Opens the ladder.
 fn open_ladder(book: &mut [u32; 4737], sheet: &mut [u32; 2880]) -> u32 {
     opening::open_ladder(book, sheet)
 }
@@ -159,6 +167,7 @@ fn step_short(book: &[u32], words: usize) {
     }
 }
 
+// A step with a book that is a word too short.
 fn show_short(book: &[u32; 4737]) {
     step_short(book, 4736);
 }

@@ -38,6 +38,7 @@ fn limit(n: usize) -> usize
     if n < 65536 { n } else { 65536 }
 }
 
+// The number in 64 bits.
 fn wide(x: u32) -> u64
     ensures { λ r. ⌜ r ≡ x ⌝ }
 {

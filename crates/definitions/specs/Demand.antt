@@ -1,4 +1,4 @@
--- The customer's demands 2 (its last clause) and 3, each as one statement.
+-- The customer's demands 2 (its last clause) and 3, each as one statement; and document 01's bounds on what Plan and Write give.
 use mathlib.Core.Path.{_≡_}
 use mathlib.Core.Logic.{_⊎_}
 use mathlib.Core.Bool.{true}

@@ -14,7 +14,7 @@ use Rattle.definitions.specs.Truth.{TrueSheet}
 use Rattle.plantheory.specs.Expand.{chainPart, nodePart, planPart}
 use Rattle.search.specs.Search.{nameOf}
 
--- a well formed book and a true sheet with no stale row
+-- a well-formed book and a true sheet with no stale row
 pub record Fresh (book sheet : List ℕ) : Type 0 where
   pub well-formed : WellFormed book
   pub true-sheet : TrueSheet (treeOf book) sheet

@@ -16,44 +16,49 @@ use reading::Command;
 // The lowest level that may be; the root is at level 1.
 const LEVELS: u32 = 8;
 
-// Whether a machine, a node, a command is out of range.
+// Whether a machine is out of range.
 fn bad_machine(m: u32) -> bool
     ensures { λ r. ⌜ r ≡ badMachine m ⌝ }
 {
     !(m < book::MACHINES)
 }
 
+// Whether a node is.
 fn bad_node(n: u32) -> bool
     ensures { λ r. ⌜ r ≡ badNode n ⌝ }
 {
     !(n < book::NODES)
 }
 
+// Whether a command is.
 fn bad_command(x: u32) -> bool
     ensures { λ r. ⌜ r ≡ badCommand x ⌝ }
 {
     !(x < book::COMMANDS)
 }
 
-// Whether a number is out of range of those that begin, add and crown name; clear; refine; arrow.
+// Whether one of the numbers that begin, add or crown names is out of range.
 fn place_out_of_range(m: u32, n: u32) -> bool
     ensures { λ r. ⌜ r ≡ (badMachine m || badNode n) ⌝ }
 {
     bad_machine(m) || bad_node(n)
 }
 
+// The same for clear.
 fn clear_out_of_range(n: u32, x: u32) -> bool
     ensures { λ r. ⌜ r ≡ (badNode n || badCommand x) ⌝ }
 {
     bad_node(n) || bad_command(x)
 }
 
+// The same for refine.
 fn refine_out_of_range(n: u32, m: u32, s: u32) -> bool
     ensures { λ r. ⌜ r ≡ (badNode n || badMachine m || badNode s) ⌝ }
 {
     bad_node(n) || place_out_of_range(m, s)
 }
 
+// The same for arrow.
 fn arrow_out_of_range(n: u32, x: u32, v: u32) -> bool
     ensures { λ r. ⌜ r ≡ (badNode n || badCommand x || badNode v) ⌝ }
 {
@@ -151,8 +156,8 @@ fn any_lowest(book: &[u32]) -> bool
     false
 }
 
-// The refusal of each command, 0 where it is taken: 6 (number out of range), 7 (machine or node not in use), 8 (new number in use),
-// 9 (already refined), 10 (a start node), 11 (target in another machine), 12 (over 8 levels).
+// The refusal of begin, 0 where it is taken. Of this and the commands below: 6 (number out of range), 7 (machine or node not in use),
+// 8 (new number in use), 9 (already refined), 10 (a start node), 11 (target in another machine), 12 (over 8 levels).
 pub fn judge_begin(m: u32, n: u32) -> u32
     ensures { λ r. ⌜ ((t : Tree) → r ≡ refusal t (edit (begin m n))) ⌝ }
 {
@@ -162,6 +167,7 @@ pub fn judge_begin(m: u32, n: u32) -> u32
     0
 }
 
+// The refusal of add.
 pub fn judge_add(book: &[u32], m: u32, n: u32) -> u32
     requires { ⌜ WellFormed (now book) ⌝ }
     ensures { λ r. ⌜ r ≡ refusal (treeOf (now (book .entry))) (edit (add m n)) ⌝ }
@@ -178,6 +184,7 @@ pub fn judge_add(book: &[u32], m: u32, n: u32) -> u32
     0
 }
 
+// The refusal of refine.
 pub fn judge_refine(book: &[u32], n: u32, m: u32, s: u32) -> u32
     requires { ⌜ WellFormed (now book) ⌝ }
     ensures { λ r. ⌜ r ≡ refusal (treeOf (now (book .entry))) (edit (refine n m s)) ⌝ }
@@ -200,6 +207,7 @@ pub fn judge_refine(book: &[u32], n: u32, m: u32, s: u32) -> u32
     0
 }
 
+// The refusal of remove.
 pub fn judge_remove(book: &[u32], n: u32) -> u32
     requires { ⌜ WellFormed (now book) ⌝ }
     ensures { λ r. ⌜ r ≡ refusal (treeOf (now (book .entry))) (edit (remove n)) ⌝ }
@@ -216,6 +224,7 @@ pub fn judge_remove(book: &[u32], n: u32) -> u32
     0
 }
 
+// The refusal of arrow.
 pub fn judge_arrow(book: &[u32], n: u32, x: u32, v: u32) -> u32
     requires { ⌜ WellFormed (now book) ⌝ }
     ensures { λ r. ⌜ ((c : ℕ) → r ≡ refusal (treeOf (now (book .entry))) (edit (arrow n x v c))) ⌝ }
@@ -232,6 +241,7 @@ pub fn judge_arrow(book: &[u32], n: u32, x: u32, v: u32) -> u32
     0
 }
 
+// The refusal of clear.
 pub fn judge_clear(book: &[u32], n: u32, x: u32) -> u32
     requires { ⌜ WellFormed (now book) ⌝ }
     ensures { λ r. ⌜ r ≡ refusal (treeOf (now (book .entry))) (edit (clear n x)) ⌝ }
@@ -245,6 +255,7 @@ pub fn judge_clear(book: &[u32], n: u32, x: u32) -> u32
     0
 }
 
+// The refusal of start.
 pub fn judge_start(book: &[u32], n: u32) -> u32
     requires { ⌜ WellFormed (now book) ⌝ }
     ensures { λ r. ⌜ r ≡ refusal (treeOf (now (book .entry))) (edit (start n)) ⌝ }
@@ -258,6 +269,7 @@ pub fn judge_start(book: &[u32], n: u32) -> u32
     0
 }
 
+// The refusal of crown.
 pub fn judge_crown(book: &[u32], m: u32, n: u32) -> u32
     requires { ⌜ WellFormed (now book) ⌝ }
     ensures { λ r. ⌜ r ≡ refusal (treeOf (now (book .entry))) (edit (crown m n)) ⌝ }

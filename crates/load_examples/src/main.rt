@@ -3,11 +3,13 @@
 use exiting::ExitAnswer;
 use libc::STDOUT_FILENO;
 
+// Writes a space and a number.
 fn number(n: u64) {
     io::write_all(STDOUT_FILENO, b" ");
     io::print_decimal(STDOUT_FILENO, n);
 }
 
+// The number in 64 bits.
 fn wide(n: usize) -> u64 {
     n as u64
 }
@@ -45,6 +47,7 @@ fn falsify(text: &[u8], book: &[u32; 4737], sheet: &mut [u32; 2880], at: usize, 
     }
 }
 
+// Opens fresh.
 fn open(book: &mut [u32; 4737], sheet: &mut [u32; 2880]) {
     opening::open_fresh(book, sheet);
 }

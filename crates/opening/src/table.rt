@@ -3,7 +3,8 @@
 // Open fresh: the one node of machine 0.
 pub const FRESH: [u32; 3] = [0, 65535, 1];
 
-// Open ladder: node 3m + k, k from 0 to 2, belongs to machine m; k = 0 and k = 2 hold machines 2m + 1 and 2m + 2, and k = 1 is the start.
+// Open ladder: node 3m + k, k from 0 to 2, belongs to machine m; k = 0 and k = 2 hold machines 2m + 1 and 2m + 2
+// where these are under 63, and k = 1 is the start.
 pub const LADDER: [u32; 567] = [
     0, // node 0
     1,

@@ -78,6 +78,7 @@ fn word(s: &Station, i: u32) -> u32 {
     get(s, if k == 0 { OWNER } else { BELOW }, n)
 }
 
+// Compares every word of the book with the station.
 fn compare_book(book: &Book, s: &Station, tally: &mut Tally) {
     let mut i = 0u32;
     while i < 4737 {
@@ -88,6 +89,7 @@ fn compare_book(book: &Book, s: &Station, tally: &mut Tally) {
     }
 }
 
+// Compares every mark with the station.
 fn compare_marks(sheet: &Sheet, s: &Station, tally: &mut Tally) {
     let mut m = 0u32;
     while m < MACHINES {
@@ -172,6 +174,7 @@ fn ask_front(
     }
 }
 
+// The answer of a plan with the first bytes of the buffer lent.
 pub fn ask(book: &Book, sheet: &Sheet, a: u32, b: u32, buffer: &mut Buffer, room: u32) -> Answer {
     ask_front(book, sheet, a, b, buffer, room as usize)
 }

@@ -47,11 +47,13 @@ pub fn begin(s: &mut Station, m: u32, n: u32) {
     add(s, m, n);
 }
 
+// Gives machine m the node n.
 pub fn add(s: &mut Station, m: u32, n: u32) {
     put(s, OWNER, n, m);
     mark_up(s, m);
 }
 
+// Puts machine m, with its start node, below node n.
 pub fn refine(s: &mut Station, n: u32, m: u32, first: u32) {
     put(s, BELOW, n, m);
     put(s, HOLDER, m, n);
@@ -67,18 +69,21 @@ fn set_transition(s: &mut Station, n: u32, x: u32, v: u32, c: u32) {
     }
 }
 
+// Gives node n a transition for x.
 pub fn arrow(s: &mut Station, n: u32, x: u32, v: u32, c: u32) {
     set_transition(s, n, x, v, c);
     let m = get(s, OWNER, n);
     mark_up(s, m);
 }
 
+// Makes node n the start node of its machine.
 pub fn restart(s: &mut Station, n: u32) {
     let m = get(s, OWNER, n);
     put(s, START, m, n);
     mark_up(s, m);
 }
 
+// Makes machine m the root; its one node n holds the old root.
 pub fn crown(s: &mut Station, m: u32, n: u32) {
     let old = get(s, ROOT, 0);
     put(s, BELOW, n, old);
@@ -98,10 +103,12 @@ pub fn remove(s: &mut Station, n: u32) {
     drop_nodes(s, n, &gone);
 }
 
+// Whether node n is one of those that go; no number over 255 is.
 fn is_gone(gone: &[bool; 256], n: u32) -> bool {
     if n < NODES { gone[n as usize] } else { false }
 }
 
+// Finds node n and the nodes below it.
 fn find_gone(s: &Station, n: u32, gone: &mut [bool; 256]) {
     let mut k = 0u32;
     while k < NODES {
@@ -110,6 +117,7 @@ fn find_gone(s: &Station, n: u32, gone: &mut [bool; 256]) {
     }
 }
 
+// Drops the machines that a node which goes holds.
 fn drop_machines(s: &mut Station, gone: &[bool; 256]) {
     let mut m = 0u32;
     while m < MACHINES {
@@ -122,6 +130,7 @@ fn drop_machines(s: &mut Station, gone: &[bool; 256]) {
     }
 }
 
+// Drops the nodes that go, and the transitions of the others into node n.
 fn drop_nodes(s: &mut Station, n: u32, gone: &[bool; 256]) {
     let mut k = 0u32;
     while k < NODES {

@@ -93,6 +93,7 @@ pub fn all_moves(s: &Station, moves: &mut Moves) {
     }
 }
 
+// Stores what each command does at state n.
 fn moves_of(s: &Station, n: u32, moves: &mut Moves) {
     let mut x = 0u32;
     while x < COMMANDS {
@@ -102,6 +103,7 @@ fn moves_of(s: &Station, n: u32, moves: &mut Moves) {
     }
 }
 
+// Stores where command x leads from state n, and its cost.
 fn set_move(moves: &mut Moves, n: u32, x: u32, v: u32, c: u32) {
     if n >= NODES {
         return;
@@ -118,6 +120,7 @@ pub fn reached(costs: &[u32; 256], n: u32) -> u32 {
     if n < NODES { costs[n as usize] } else { FAR }
 }
 
+// Stores the cost at which a state is reached.
 fn set_reached(costs: &mut [u32; 256], n: u32, c: u32) {
     if n < NODES {
         costs[n as usize] = c;
@@ -168,6 +171,7 @@ fn relax(moves: &Moves, n: u32, costs: &mut [u32; 256]) {
     }
 }
 
+// Lowers the cost of the state where command x leads from n, which is reached at this cost.
 fn lower(moves: &Moves, n: u32, x: u32, from: u32, costs: &mut [u32; 256]) {
     if n >= NODES {
         return;

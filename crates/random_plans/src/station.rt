@@ -60,6 +60,7 @@ pub fn transition(s: &Station, field: u32, n: u32, x: u32) -> u32 {
     get(s, field % 64 + x, n)
 }
 
+// Whether node n is in use and plain.
 pub fn is_state(s: &Station, n: u32) -> bool {
     get(s, OWNER, n) != NONE && get(s, BELOW, n) == NONE
 }
@@ -122,6 +123,7 @@ pub fn states(s: &Station) -> u32 {
     count
 }
 
+// 1 where it holds, else 0.
 fn one_if(b: bool) -> u32
     ensures { λ r. ⌜ r ≤ 1 ⌝ }
 {

@@ -44,6 +44,7 @@ pub struct Counts {
     pub number: u32,
 }
 
+// The byte as a number.
 pub fn wide(b: u8) -> u32 {
     b as u32
 }
@@ -84,6 +85,7 @@ fn operands(op: u32) -> usize
     }
 }
 
+// A command of a stream, with its operands.
 pub fn new_order(op: u32, machine: u32, node: u32, other: u32, command: u32, cost: u32) -> Order {
     Order {
         op,
@@ -167,6 +169,7 @@ fn too_deep(s: &Station, o: Order) -> bool {
     }
 }
 
+// The number where it holds, else 0.
 fn number_if(holds: bool, number: u32) -> u32 {
     if holds { number } else { 0 }
 }
@@ -205,6 +208,7 @@ fn perform(s: &mut Station, o: Order) {
     }
 }
 
+// A turn that takes nothing, with the number of its refusal.
 fn stopped(number: u32) -> Turn {
     Turn { size: 0, number }
 }

@@ -20,6 +20,7 @@ pub const PLANS: u32 = 67;
 
 pub const DIFFERENCES: u32 = 68;
 
+// The count at a place.
 pub fn get(tally: &Tally, i: u32) -> u64 {
     if i < 72 { tally[i as usize] } else { 0 }
 }
@@ -32,6 +33,7 @@ pub fn count(tally: &mut Tally, i: u32, more: usize) {
     }
 }
 
+// Writes a text.
 pub fn text(t: &[u8]) {
     io::write_all(STDOUT_FILENO, t);
 }

@@ -55,6 +55,7 @@ fn fill_long(list: &mut [u8]) {
     put_at(list, 65534, 0x19);
 }
 
+// The session for an input over the limit.
 fn show_long(text: &[u8]) {
     let mut list = [0u8; 65600];
     fill_long(&mut list);

@@ -9,7 +9,7 @@ ghost use Rattle.definitions.specs.Step.{enter, climb, step};
 ghost use Rattle.definitions.specs.Calls.{StepSays};
 ghost use Rattle.stepping.specs.Meaning.{Used, climbOf, stepOf, StatesJudged, answerOf};
 
-// Where a command finds a transition: the node that has it, its target and its cost.
+// Where a command finds a transition: the node that has it, its target and its cost; or that it finds none.
 pub enum Climbed {
     Found { node: u32, target: u32, cost: u32 },
     Passed,

@@ -27,6 +27,7 @@ pub enum OwnExit {
     Never,
 }
 
+// The number in 64 bits.
 fn wide(x: u32) -> u64
     ensures { λ r. ⌜ (r ≡ x) × (r < exitLimit) ⌝ }
 {
