@@ -1,6 +1,6 @@
 -- What a search over the tables finds is what the search of a plan has to find: every reached node belongs to an opened machine, since only
 -- such nodes have moves and their moves lead to such nodes. Assumes nothing.
-use mathlib.Core.Path.{_≡_, sym, _∙_, ap, subst}
+use mathlib.Core.Path.{_≡_, sym, _∙_, subst}
 use mathlib.Core.Logic.{⊎-elim}
 use mathlib.Core.Bool.{Bool, true, false}
 use mathlib.Core.Option.{Option, some}

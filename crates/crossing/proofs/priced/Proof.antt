@@ -1,13 +1,8 @@
 -- `crossing::priced` meets its contract: the word for no transition has the word for absent as its target. Assumes nothing.
-use mathlib.Core.Path.{_∙_, sym, ap}
-use mathlib.Core.Option.{Option}
-use Prim.Native.Nat.{ℕ}
 use native.Mathlib.Omega.{arith}
 use borrow.Author.Needs.{needs}
 use Rattle.definitions.specs.Book.{transitionOf}
-use Rattle.truesheet.specs.Meaning.{exitOf}
 use Rattle.truesheet.proofs.Exits.{exits-none, exits-some}
-use Rattle.crossing.specs.Parts.{leaves}
 use Rattle.crossing.proofs.Tabling.{priced-costs, priced-never}
 use Rattle.crossing.proofs.priced.Statement.{statement}
 use Rattle.crossing.proofs.priced.Tie as tie
