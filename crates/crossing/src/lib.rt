@@ -174,10 +174,13 @@ fn priced(exit: OwnExit, w: u32) -> Move
     ensures { λ r. ⌜ entryMove (r .target) (r .price) ≡ leaves (exitOf exit) (transitionOf w) ⌝ }
 {
     match exit {
-        OwnExit::Costs(e) => Move {
-            target: w / 65536,
-            price: e + wide(w % 65536),
-        },
+        OwnExit::Costs(e) => {
+            let price = e + wide(w % 65536);
+            Move {
+                target: w / 65536,
+                price,
+            }
+        }
         OwnExit::Never => Move {
             target: book::ABSENT,
             price: 0,
