@@ -2,21 +2,21 @@
 -- word by word, from the root down. Assumes nothing.
 use mathlib.Core.Path.{_≡_, refl, sym, _∙_, ap, subst}
 use mathlib.Core.Logic.{⊎-elim}
-use mathlib.Core.Bool.{Bool, true}
+use mathlib.Core.Bool.{Bool, true, cond}
 use mathlib.Core.Option.{Option, none, some}
 use mathlib.Core.List.{List}
-use Prim.Native.Nat.{ℕ, _+_, _*_, _/_, _%_, _≤_, _<_}
+use Prim.Native.Nat.{ℕ, _+_, _*_, _-_, _/_, _%_, _≤_, _<_}
 use native.Mathlib.Omega.{arith}
 use lib.Dec.{eqb}
-use lib.ListN.{length, getD, set, replicate, getD-replicate}
+use lib.ListN.{getD, set, replicate}
 use lib.Seq.{getD-set-same, getD-set-other}
-use borrow.Author.Tests.{eq-eqb, eqb-true}
+use borrow.Author.Tests.{eq-eqb, ne-eqb, eqb-true}
 use Rattle.definitions.specs.Basics.{_>>=_}
 use Rattle.definitions.specs.Limits.{machines, nodes, commands, costs, absent, blank}
 use Rattle.definitions.specs.Tree.{Tree, Transition, Sound, over}
 use Rattle.definitions.specs.Step.{climb}
 use Rattle.definitions.specs.Book.{word, transitionWord, transitionOf, treeOf, WellFormed}
-use Rattle.definitions.proofs.Options.{some-same, decided, true-false, equal-or-not}
+use Rattle.definitions.proofs.Options.{some-same, equal-or-not}
 use Rattle.definitions.proofs.Words.{transition-word, target-range, no-transition, some-transition}
 use Rattle.definitions.proofs.Commands.{over-top, over-up}
 use Rattle.definitions.proofs.Simple.{over-own}
@@ -24,10 +24,10 @@ use Rattle.plantheory.specs.Search.{openedFor}
 use Rattle.search.specs.Parts.{at}
 use Rattle.stepping.specs.Meaning.{Used}
 use Rattle.stepping.proofs.Laws.{top-root, climb-here, climb-ends, climb-up}
-use Rattle.crossing.specs.Parts.{NodeList, landed, finds, inherits, UpRoom, Inherited, OwnRow, RowAbove, RootRow, Handed, HandedTo, HandedAbove}
+use Rattle.crossing.specs.Parts.{NodeList, landed, finds, inherits, UpRoom, Inherited, OwnerRow, RootRow, Handed, HandedTo, HandedAbove}
 use Rattle.crossing.specs.Parts.{isOpen, OpenedFor, Landings, Prepared}
 use Rattle.crossing.proofs.Upward.{own, top, held}
-use Rattle.crossing.proofs.Opening.{either}
+use Rattle.crossing.proofs.Opening.{either, zeros}
 
 -- ---- what a command finds
 
@@ -54,19 +54,26 @@ word-says v c node cost =
     (λ a e. subst (λ (b : Transition). (b .target < nodes) × (b .cost < costs)) (some-same refl e) (node, cost))
 
 -- the same, from what the words say
-module _ (book : List ℕ) (w : WellFormed book) (lands : List ℕ) (n x : ℕ) {m a : ℕ} (own : treeOf book .owner n ≡ some m)
+module _ (book : List ℕ) (w : WellFormed book) (lands : List ℕ) (n x : ℕ) {m a : ℕ} (own-n : treeOf book .owner n ≡ some m)
     (is : a ≡ transitionWord (treeOf book .transition n x)) where
-  pub find-inherited : a ≡ blank → (up : ℕ) → transitionOf up ≡ inherits (treeOf book) lands m x → transitionOf up ≡ finds (treeOf book) lands n x
-  find-inherited free up says = says ∙ sym (finds-inherited (w .sound) lands x own (no-transition (treeOf book) (w .sound) n x is free))
+  find-inherited : a ≡ blank → (up : ℕ) → transitionOf up ≡ inherits (treeOf book) lands m x → transitionOf up ≡ finds (treeOf book) lands n x
+  find-inherited free up says = says ∙ sym (finds-inherited (w .sound) lands x own-n (no-transition (treeOf book) (w .sound) n x is free))
 
-  pub find-own : NodeList lands → (a ≡ blank → ⊥) → transitionOf (at lands (a / costs % nodes) * costs + a % costs) ≡ finds (treeOf book) lands n x
+  find-own : NodeList lands → (a ≡ blank → ⊥) → transitionOf (at lands (a / costs % nodes) * costs + a % costs) ≡ finds (treeOf book) lands n x
   find-own list there =
       let has = some-transition (treeOf book) (w .sound) n x is there in
       let target : a / costs < nodes = target-range (treeOf book) (w .sound) n x _ has .1 in
       let same : a / costs % nodes ≡ a / costs = omega arith in
       let says : transitionOf (at lands (a / costs) * costs + a % costs) ≡ some (record { target = at lands (a / costs); cost = a % costs }) =
       word-says (at lands (a / costs)) (a % costs) (list .inside (a / costs) target) (omega arith) in
-      rw same (says ∙ sym (finds-own (w .sound) lands x own has))
+      rw same (says ∙ sym (finds-own (w .sound) lands x own-n has))
+
+  pub find-first : NodeList lands → (up : ℕ) → transitionOf up ≡ inherits (treeOf book) lands m x → {r : ℕ}
+      → r ≡ cond (eqb a blank) up (at lands (a / costs % nodes) * costs + a % costs) → transitionOf r ≡ finds (treeOf book) lands n x
+  find-first list up says picked =
+      ap transitionOf picked
+      ∙ ⊎-elim (λ (free : a ≡ blank). rw (eq-eqb a blank free) (find-inherited free up says))
+      (λ (there : a ≡ blank → ⊥). rw (ne-eqb a blank there) (find-own list there)) (equal-or-not a blank)
 
 -- ---- the list of what machines inherit, word by word
 
@@ -81,9 +88,9 @@ module _ {t : Tree} {lands : List ℕ} {m : ℕ} where
 
   module _ {j : ℕ} {old up : List ℕ} (to : Handed t lands (λ p x. (p ≡ m) × (x < j)) old up) where
     -- one word more
-    pub handed-more : UpRoom up → m < machines → j < commands → (w : ℕ) → transitionOf w ≡ inherits t lands m j
-        → Handed t lands (λ p x. (p ≡ m) × (x < j + 1)) old (set up (commands * m + j) w)
-    handed-more room machine small w says =
+    pub handed-more : UpRoom up → m < machines → j < commands → (w : ℕ) → w ≤ blank → transitionOf w ≡ inherits t lands m j
+        → Handed t lands (λ p x. (p ≡ m) × (x < j + 1)) old (set up (commands * m + j) (blank - w))
+    handed-more room machine small w fits says =
         record {
           told = λ p x range e.
               ⊎-elim (λ (same : x ≡ j). stored p x range (omega (arith, e .0)))
@@ -92,19 +99,20 @@ module _ {t : Tree} {lands : List ℕ} {m : ℕ} where
         }
       where
         -- the word stored
-        stored : (p x : ℕ) → x < commands → commands * p + x ≡ commands * m + j → Inherited t lands (set up (commands * m + j) w) p x
+        stored : (p x : ℕ) → x < commands → commands * p + x ≡ commands * m + j → Inherited t lands (set up (commands * m + j) (blank - w)) p x
         stored p x range at-it =
             let machine-same : p ≡ m = omega arith in
             let command-same : x ≡ j = omega arith in
-            let here : getD (set up (commands * m + j) w) (commands * m + j) 0 ≡ w =
-            getD-set-same up (commands * m + j) w 0 (omega (arith, room)) in
-            rw (machine-same, command-same, here) says
+            let here : getD (set up (commands * m + j) (blank - w)) (commands * m + j) 0 ≡ blank - w =
+            getD-set-same up (commands * m + j) (blank - w) 0 (omega (arith, room)) in
+            let back : blank - (blank - w) ≡ w = omega arith in
+            rw (machine-same, command-same, here, back) says
 
         -- a word that was right
-        stays : (p x : ℕ) → x < commands → Inherited t lands up p x → Inherited t lands (set up (commands * m + j) w) p x
+        stays : (p x : ℕ) → x < commands → Inherited t lands up p x → Inherited t lands (set up (commands * m + j) (blank - w)) p x
         stays p x range right =
             ⊎-elim (λ (same : commands * p + x ≡ commands * m + j). stored p x range same)
-            (λ (apart : commands * p + x ≡ commands * m + j → ⊥). rw (getD-set-other up (commands * m + j) (commands * p + x) w 0 apart) right)
+            (λ (apart : commands * p + x ≡ commands * m + j → ⊥). rw (getD-set-other up (commands * m + j) (commands * p + x) (blank - w) 0 apart) right)
             (equal-or-not (commands * p + x) (commands * m + j))
 
     -- all words
@@ -142,15 +150,13 @@ module _ (book : List ℕ) (w : WellFormed book) (lands : List ℕ) (n : ℕ) (u
       }
 
 -- the row of a node's machine is among those above the node
-pub handed-row : {t : Tree} {lands : List ℕ} (n : ℕ) {up new : List ℕ} → HandedAbove t lands n up new → RowAbove t lands new n
+pub handed-row : {t : Tree} {lands : List ℕ} (n : ℕ) {up new : List ℕ} → HandedAbove t lands n up new → OwnerRow t lands new n
 handed-row {t} n handed m own x range = handed .told m x range (over-own t own)
 
--- a list of words for no transition has the root's row
-pub root-blank : {t : Tree} → Sound t → (lands : List ℕ) (k : ℕ) → commands * machines ≤ k → RootRow t lands (replicate k blank)
+-- a list of zeros has the root's row
+pub root-zeros : {t : Tree} → Sound t → (lands : List ℕ) (k : ℕ) → RootRow t lands (replicate k 0)
 unfolding inherits transitionOf
-root-blank {t} s lands k room x range =
-    let root = s .machine-range (t .root) (s .root-used .0) (s .root-used .1) in
-    rw (getD-replicate k (commands * t .root + x) blank 0 (omega arith), s .root-free)
+root-zeros {t} s lands k x range = rw (zeros k (commands * t .root + x), s .root-free)
 
 -- after two such calls the machines above a and b have their rows
 pub prepared : {t : Tree} (words : List ℕ) {lands : List ℕ} (a b : ℕ) {up one two : List ℕ} → OpenedFor t a b words → Landings t (isOpen words) lands

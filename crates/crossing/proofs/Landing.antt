@@ -131,18 +131,18 @@ module _ (t : Tree) (opened : ℕ → Bool) (lands : List ℕ) (room : length la
       (λ (apart : v ≡ h → ⊥). rw (getD-set-other lands h v w 0 apart) right) (equal-or-not v h)
 
 -- the walk from s has come to node n: of the nodes that hold a machine above s, those that hold none above n have where they land
-pub record Descending (t : Tree) (opened : ℕ → Bool) (s n : ℕ) (old new : List ℕ) : Type 0 where
+pub record LandingWalk (t : Tree) (opened : ℕ → Bool) (s n : ℕ) (old new : List ℕ) : Type 0 where
   pub room : length new ≡ nodes
   pub used : Used t n
   pub told : (v b : ℕ) → t .below v ≡ some b → over t b s ≡ true → (over t b n ≡ true) ⊎ LandsAt t opened new v
   pub kept : (v : ℕ) → LandsAt t opened old v → LandsAt t opened new v
 
 -- at first
-pub landing-starts : (t : Tree) (opened : ℕ → Bool) {s : ℕ} {lands : List ℕ} → length lands ≡ nodes → Used t s → Descending t opened s s lands lands
+pub landing-starts : (t : Tree) (opened : ℕ → Bool) {s : ℕ} {lands : List ℕ} → length lands ≡ nodes → Used t s → LandingWalk t opened s s lands lands
 landing-starts t opened room used = record { room = room; used = used; told = λ v b bel on. inl on; kept = λ v right. right }
 
 module _ (book : List ℕ) (w : WellFormed book) {opened : ℕ → Bool} {s n : ℕ} {old new : List ℕ}
-    (walk : Descending (treeOf book) opened s n old new) {o h : ℕ} (owner : o ≡ word (treeOf book .owner n))
+    (walk : LandingWalk (treeOf book) opened s n old new) {o h : ℕ} (owner : o ≡ word (treeOf book .owner n))
     (holder : h ≡ word (treeOf book .holder o)) where
   own-n : treeOf book .owner n ≡ some o
   own-n = own book w n (walk .used) owner
@@ -163,7 +163,7 @@ module _ (book : List ℕ) (w : WellFormed book) {opened : ℕ → Bool} {s n : 
 
   -- node h does
   pub landing-on : (h ≡ absent → ⊥) → {v : ℕ} → (land (treeOf book) opened h ≡ some v) × (v < nodes)
-      → Descending (treeOf book) opened s h old (set new h v)
+      → LandingWalk (treeOf book) opened s h old (set new h v)
   landing-on there {v} lands-v =
       let held-o = held book w n (walk .used) owner holder there in
       let used-h = used-holder book w n (walk .used) owner holder there in

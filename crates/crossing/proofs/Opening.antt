@@ -97,7 +97,7 @@ module _ (book : List ℕ) (w : WellFormed book) {old new : List ℕ} {s n : ℕ
 -- ---- what the list says
 
 -- a list of zeros opens no machine
-zeros : (k m : ℕ) → _≡_ {A = ℕ} (getD (replicate k 0) m 0) 0
+pub zeros : (k m : ℕ) → _≡_ {A = ℕ} (getD (replicate k 0) m 0) 0
 zeros zero m = refl
 zeros (suc k) zero = refl
 zeros (suc k) (suc m) = zeros k m

@@ -4,11 +4,11 @@ use mathlib.Core.Path.{_≡_}
 use mathlib.Core.Bool.{Bool, true, false, cond, _||_}
 use mathlib.Core.Option.{Option, none, some}
 use mathlib.Core.List.{List}
-use Prim.Native.Nat.{ℕ, _+_, _*_, _<_}
+use Prim.Native.Nat.{ℕ, _+_, _*_, _-_, _<_}
 use lib.Dec.{eqb}
 use lib.ListN.{length}
 use Rattle.definitions.specs.Basics.{_>>=_, option}
-use Rattle.definitions.specs.Limits.{machines, nodes, commands}
+use Rattle.definitions.specs.Limits.{machines, nodes, commands, blank}
 use Rattle.definitions.specs.Tree.{Tree, Transition, over}
 use Rattle.definitions.specs.Step.{Climb, found, passed, climb, Arrival}
 use Rattle.definitions.specs.Book.{number, transitionOf}
@@ -63,12 +63,12 @@ pub record Landings (t : Tree) (opened : ℕ → Bool) (lands : List ℕ) : Type
 
 -- ---- what a command finds
 
--- what a climb finds, with the node where its target lands for target
+-- what a climb finds, with the node where its target lands by the list for target
 abbrev pub landed : List ℕ → Climb → Option Transition
 landed lands (found u v c) = some (record { target = at lands v; cost = c })
 landed lands (passed c) = none
 
--- what command x finds from node n
+-- what command x finds from node n: the transition that document 01 has it use, its target landed
 unfoldable pub finds : Tree → List ℕ → ℕ → ℕ → Option Transition
 finds t lands n x = landed lands (climb t (t .root) n x)
 
@@ -80,19 +80,19 @@ inherits t lands m x = t .holder m >>= λ h. finds t lands h x
 abbrev pub UpRoom : List ℕ → Type 0
 UpRoom up = length up ≡ commands * machines
 
--- its word for m and x says what m inherits for x
+-- its word for m and x says what m inherits for x: it is that transition's word taken from the word for none, so 0 for nothing
 abbrev pub Inherited : Tree → List ℕ → List ℕ → ℕ → ℕ → Type 0
-Inherited t lands up m x = transitionOf (at up (commands * m + x)) ≡ inherits t lands m x
+Inherited t lands up m x = transitionOf (blank - at up (commands * m + x)) ≡ inherits t lands m x
 
 -- and so do all words of machine m's row; of the row of node n's machine; of the root's row
-abbrev pub OwnRow : Tree → List ℕ → List ℕ → ℕ → Type 0
-OwnRow t lands up m = (x : ℕ) → x < commands → Inherited t lands up m x
+abbrev pub MachineRow : Tree → List ℕ → List ℕ → ℕ → Type 0
+MachineRow t lands up m = (x : ℕ) → x < commands → Inherited t lands up m x
 
-abbrev pub RowAbove : Tree → List ℕ → List ℕ → ℕ → Type 0
-RowAbove t lands up n = (m : ℕ) → t .owner n ≡ some m → OwnRow t lands up m
+abbrev pub OwnerRow : Tree → List ℕ → List ℕ → ℕ → Type 0
+OwnerRow t lands up n = (m : ℕ) → t .owner n ≡ some m → MachineRow t lands up m
 
 abbrev pub RootRow : Tree → List ℕ → List ℕ → Type 0
-RootRow t lands up = OwnRow t lands up (t .root)
+RootRow t lands up = MachineRow t lands up (t .root)
 
 -- the words that are told of say what is inherited, and so do those that said it before
 pub record Handed (t : Tree) (lands : List ℕ) (Told : ℕ → ℕ → Type 0) (old new : List ℕ) : Type 0 where
@@ -110,7 +110,7 @@ HandedAbove t lands n = Handed t lands (λ p x. over t p n ≡ true)
 pub record Prepared (t : Tree) (opened : ℕ → Bool) (lands up : List ℕ) : Type 0 where
   pub landings : Landings t opened lands
   pub room : UpRoom up
-  pub inherited : (m : ℕ) → opened m ≡ true → OwnRow t lands up m
+  pub inherited : (m : ℕ) → opened m ≡ true → MachineRow t lands up m
 
 -- ---- the tables
 

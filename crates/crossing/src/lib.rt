@@ -1,11 +1,12 @@
 // The search of a plan (document 01, "Exit, step and plan"): the machines above two nodes are opened, the tables take the moves between
 // their nodes, with exit costs for what lies below, and the least costs over them are one search's. A node's place is its number.
 ghost use mathlib.Core.Path.{_≡_};
+ghost use mathlib.Core.Bool.{cond};
 ghost use mathlib.Core.Option.{some};
 ghost use Prim.Native.Nat.{ℕ, _<_};
+ghost use lib.Dec.{eqb};
 ghost use lib.ListN.{length};
-ghost use Rattle.definitions.specs.Limits.{machines, nodes, commands};
-ghost use Rattle.definitions.specs.Tree.{Tree};
+ghost use Rattle.definitions.specs.Limits.{machines, nodes, commands, blank};
 ghost use Rattle.definitions.specs.Book.{treeOf, transitionOf, WellFormed};
 ghost use Rattle.definitions.specs.Sheet.{rowsOf};
 ghost use Rattle.plantheory.specs.Search.{openedFor, land};
@@ -14,7 +15,7 @@ ghost use Rattle.truesheet.specs.Fits.{Holding};
 ghost use Rattle.stepping.specs.Meaning.{Used};
 ghost use Rattle.crossing.specs.Crossing.{Crossable, CrossRoom, Crossed};
 ghost use Rattle.crossing.specs.Parts.{isOpen, Opens, inOpened, OpenedFor, NodeList, Itself, LandedAbove, Landings};
-ghost use Rattle.crossing.specs.Parts.{finds, leaves, landMove, UpRoom, RowAbove, OwnRow, RootRow, HandedTo, HandedAbove, Prepared};
+ghost use Rattle.crossing.specs.Parts.{finds, leaves, landMove, UpRoom, OwnerRow, MachineRow, RootRow, HandedTo, HandedAbove, Prepared};
 ghost use Rattle.crossing.specs.Parts.{entryMove, InNodes, openMove, TableRoom, BlankRow, EntryFilled, RowFilled, Tabled};
 use truesheet::OwnExit;
 
@@ -97,12 +98,12 @@ fn land_above(book: &[u32], opened: &[u32], s: u32, lands: &mut [u32])
 {
     let mut n = s;
     loop {
-        let h = book::holder(book, book::owner(book, n));
-        if h == book::ABSENT {
+        let v = book::holder(book, book::owner(book, n));
+        if v == book::ABSENT {
             return;
         }
-        lands[h as usize] = land(book, opened, h);
-        n = h;
+        lands[v as usize] = land(book, opened, v);
+        n = v;
     }
 }
 
@@ -117,47 +118,54 @@ fn landings(book: &[u32], opened: &[u32], a: u32, b: u32, lands: &mut [u32])
     land_above(book, opened, b, lands);
 }
 
+// `own`, but `inherited` where w is the word for no transition. Both are at hand, so that the choice needs no branch.
+fn unless_none(w: u32, own: u32, inherited: u32) -> u32
+    ensures { λ r. ⌜ r ≡ cond (eqb w blank) inherited own ⌝ }
+{
+    if w == book::BLANK { inherited } else { own }
+}
+
 // What command x finds from node n of machine m, as a transition's word whose target is where the one found lands: the transition of n,
-// or else what m inherits.
+// or else what m inherits. The list `up` has the words of what is inherited taken from BLANK, so 0 for nothing.
 fn find(book: &[u32], lands: &[u32], up: &[u32], m: u32, n: u32, x: u32) -> u32
     requires { ⌜ WellFormed (now book) × NodeList (now lands) × UpRoom (now up) × (treeOf (now book) .owner n ≡ some m) × (x < commands)
-        × OwnRow (treeOf (now book)) (now lands) (now up) m ⌝ }
+        × MachineRow (treeOf (now book)) (now lands) (now up) m ⌝ }
     ensures { λ r. ⌜ transitionOf r ≡ finds (treeOf (now (book .entry))) (now (lands .entry)) n x ⌝ }
 {
     let w = book::transition(book, n, x);
     let own = lands[(w / 65536 % 256) as usize] * 65536 + w % 65536;
-    let inherited = up[(book::COMMANDS * m + x) as usize];
-    if w == book::BLANK { inherited } else { own }
+    let inherited = book::BLANK - up[(book::COMMANDS * m + x) as usize];
+    unless_none(w, own, inherited)
 }
 
-// Writes what machine m, held by node h, inherits; the row of the machine above it is written.
+// Writes what machine m, held by node h, inherits: what every command y finds from h. The row of the machine above is written already.
 fn inherit(book: &[u32], lands: &[u32], m: u32, h: u32, up: &mut [u32])
     requires { ⌜ WellFormed (now book) × NodeList (now lands) × UpRoom (now up) × (treeOf (now book) .holder m ≡ some h)
-        × RowAbove (treeOf (now book)) (now lands) (now up) h ⌝ }
+        × OwnerRow (treeOf (now book)) (now lands) (now up) h ⌝ }
     ensures { λ _. ⌜ HandedTo (treeOf (now (book .entry))) (now (lands .entry)) m (now (up .entry)) (now (up .exit)) ⌝ }
 {
     let p = book::owner(book, h);
-    let mut x = 0u32;
-    while x < book::COMMANDS {
-        let w = find(book, lands, up, p, h, x);
-        up[(book::COMMANDS * m + x) as usize] = w;
-        x += 1;
+    let mut y = 0u32;
+    while y < book::COMMANDS {
+        let w = find(book, lands, up, p, h, y);
+        up[(book::COMMANDS * m + y) as usize] = book::BLANK - w;
+        y += 1;
     }
 }
 
-// Writes what the machine of node n and all above it inherit, from the root down; the root's row is written.
+// Writes what the machine of node n and all above it inherit, from the root down. The root's row is written already.
 fn inherit_above(book: &[u32], lands: &[u32], n: u32, up: &mut [u32])
     requires { ⌜ WellFormed (now book) × NodeList (now lands) × UpRoom (now up) × Used (treeOf (now book)) n
         × RootRow (treeOf (now book)) (now lands) (now up) ⌝ }
     ensures { λ _. ⌜ HandedAbove (treeOf (now (book .entry))) (now (lands .entry)) n (now (up .entry)) (now (up .exit)) ⌝ }
 {
     let m = book::owner(book, n);
-    let h = book::holder(book, m);
-    if h == book::ABSENT {
+    let above = book::holder(book, m);
+    if above == book::ABSENT {
         return;
     }
-    inherit_above(book, lands, h, up);
-    inherit(book, lands, m, h, up);
+    inherit_above(book, lands, above, up);
+    inherit(book, lands, m, above, up);
 }
 
 // The move of a node with this exit cost from which the transition of word w is found. The word for none has ABSENT for target.
@@ -166,10 +174,13 @@ fn priced(exit: OwnExit, w: u32) -> Move
     ensures { λ r. ⌜ entryMove (r .target) (r .price) ≡ leaves (exitOf exit) (transitionOf w) ⌝ }
 {
     match exit {
-        OwnExit::Costs(e) => Move {
-            target: w / 65536,
-            price: e + wide(w % 65536),
-        },
+        OwnExit::Costs(e) => {
+            let price = e + wide(w % 65536);
+            Move {
+                target: w / 65536,
+                price,
+            }
+        }
         OwnExit::Never => Move {
             target: book::ABSENT,
             price: 0,
@@ -190,7 +201,7 @@ fn entry(
     price: &mut [u64],
 )
     requires { ⌜ Holding (now book) (now sheet) × NodeList (now lands) × UpRoom (now up) × (treeOf (now book) .owner n ≡ some m) × (x < commands)
-        × OwnRow (treeOf (now book)) (now lands) (now up) m × TableRoom (now target) (now price) ⌝ }
+        × MachineRow (treeOf (now book)) (now lands) (now up) m × TableRoom (now target) (now price) ⌝ }
     ensures { λ _. ⌜ EntryFilled (landMove (treeOf (now (book .entry))) (rowsOf (now (sheet .entry))) (now (lands .entry)) n x) n x
         (now (target .entry)) (now (price .entry)) (now (target .exit)) (now (price .exit)) ⌝ }
 {
@@ -212,7 +223,7 @@ fn row(
     price: &mut [u64],
 )
     requires { ⌜ Holding (now book) (now sheet) × NodeList (now lands) × UpRoom (now up) × Used (treeOf (now book)) n
-        × RowAbove (treeOf (now book)) (now lands) (now up) n × TableRoom (now target) (now price) ⌝ }
+        × OwnerRow (treeOf (now book)) (now lands) (now up) n × TableRoom (now target) (now price) ⌝ }
     ensures { λ _. ⌜ RowFilled (landMove (treeOf (now (book .entry))) (rowsOf (now (sheet .entry))) (now (lands .entry)) n) n
         (now (target .entry)) (now (price .entry)) (now (target .exit)) (now (price .exit)) ⌝ }
 {
@@ -224,7 +235,7 @@ fn row(
     }
 }
 
-// Fills the row of node n if it belongs to an opened machine; else it has no move, before and after.
+// Fills the row of node n, which has no move yet, if it belongs to an opened machine.
 fn row_if_opened(
     book: &[u32],
     sheet: &[u32],
@@ -282,7 +293,7 @@ fn tables(book: &[u32], sheet: &[u32], a: u32, b: u32, target: &mut [u32], price
     open_above(book, b, &mut opened);
     let mut lands = [0u32; 256];
     landings(book, &opened, a, b, &mut lands);
-    let mut up = [book::BLANK; 1024];
+    let mut up = [0u32; 1024];
     inherit_above(book, &lands, a, &mut up);
     inherit_above(book, &lands, b, &mut up);
     rows(book, sheet, &opened, &lands, &up, target, price);

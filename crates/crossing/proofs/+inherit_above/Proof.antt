@@ -1,6 +1,6 @@
 -- `crossing::inherit_above` meets its contract: first the rows above the machine, then its own. It ends at the root: the node that holds a
 -- machine is one level higher. Assumes nothing.
-use mathlib.Core.Path.{sym, _∙_}
+use mathlib.Core.Path.{_∙_}
 use Prim.Native.Nat.{ℕ, _<_}
 use native.Mathlib.Omega.{arith}
 use denote.Ref.{now}

@@ -1,11 +1,12 @@
 -- `crossing::find` meets its contract: the node's own transition, its target landed, or what the machine inherits. Assumes nothing.
-use Prim.Native.Nat.{_/_, _%_}
+use Prim.Native.Nat.{_+_, _*_, _/_, _%_}
 use native.Mathlib.Omega.{arith}
 use denote.Ref.{now}
 use borrow.Author.Needs.{needs}
+use Rattle.definitions.specs.Limits.{commands}
 use Rattle.definitions.specs.Book.{treeOf}
 use Rattle.definitions.proofs.Words.{owner-range}
-use Rattle.crossing.proofs.Inheriting.{find-inherited, find-own}
+use Rattle.crossing.proofs.Inheriting.{find-first}
 use Rattle.crossing.proofs.find.Statement.{statement}
 use Rattle.crossing.proofs.find.Tie as tie
 
@@ -50,17 +51,19 @@ shared-slice-read-inherited c =
     let e = c .before .before .before .before .before .before in
     omega (arith, owner-range (treeOf (now (e .args .book))) (e .pre .0 .sound) (e .args .n) (e .args .m) (e .pre .3) .1, e .pre .2, e .pre .4)
 
+sub-inherited : tie.Need-sub-inherited
+sub-inherited c =
+    let e = c .before .before .before .before .before .before in
+    omega (arith, c .shared-slice-known5 .given (commands * e .args .m + e .args .x))
+
+unless-none-requires : tie.Need-unless-none-requires
+unless-none-requires c κs = search needs
+
 returns : tie.Need-returns
 returns c =
     let e = c .before .before .before .before .before .before .before in
-    find-inherited (now (e .args .book)) (e .pre .0) (now (e .args .lands)) (e .args .n) (e .args .x) (e .pre .3) (c .before .before .before .transition .ensures)
-    (c .if1 .taken) _ (e .pre .5 (e .args .x) (e .pre .4))
-
-returns-2 : tie.Need-returns-2
-returns-2 c =
-    let e = c .before .before .before .before .before .before .before in
-    find-own (now (e .args .book)) (e .pre .0) (now (e .args .lands)) (e .args .n) (e .args .x) (e .pre .3) (c .before .before .before .transition .ensures) (e .pre .1)
-    (c .if1 .left)
+    find-first (now (e .args .book)) (e .pre .0) (now (e .args .lands)) (e .args .n) (e .args .x) (e .pre .3) (c .before .before .before .transition .ensures) (e .pre .1) _
+    (e .pre .5 (e .args .x) (e .pre .4)) (c .unless-none .ensures)
 
 pub find-spec : {M : Type 1} → statement M
 find-spec =
@@ -77,5 +80,6 @@ find-spec =
     cast-inherited
     mul-inherited-2
     shared-slice-read-inherited
-    returns
-    returns-2)
+    sub-inherited
+    unless-none-requires
+    returns)

@@ -14,10 +14,10 @@ use Rattle.crossing.proofs.inherit.Statement.{statement}
 use Rattle.crossing.proofs.inherit.Tie as tie
 
 abbrev Inv-loop : tie.InvT-loop
-Inv-loop book lands m h up₀ p x₀ up x = (x ≤ commands) × UpRoom up × Handed (treeOf book) lands (λ q y. (q ≡ m) × (y < x)) up₀ up
+Inv-loop book lands m h up₀ p y₀ up y = (y ≤ commands) × UpRoom up × Handed (treeOf book) lands (λ q x. (q ≡ m) × (x < y)) up₀ up
 
 abbrev μ-loop : tie.MeasureT-loop
-μ-loop book lands m h up₀ p x₀ up x = commands - x
+μ-loop book lands m h up₀ p y₀ up y = commands - y
 
 owner-requires : tie.Need-owner-requires Inv-loop μ-loop
 owner-requires c κs =
@@ -43,6 +43,9 @@ find-requires c κs =
       λ x range. l .loop .inv .2 .kept (l .before .owner .result) x range (e .pre .4 (l .before .owner .result) own x range),
     )
 
+sub-up : tie.Need-sub-up Inv-loop μ-loop
+sub-up c = omega arith
+
 mul-up : tie.Need-mul-up Inv-loop μ-loop
 mul-up c =
     let e = c .before .before .before .before .before .before .before .before in
@@ -64,8 +67,8 @@ slice-write-up c =
     let e = c .before .before .before .before .before .before .before .before in
     omega (arith, holder-range (treeOf (now (e .args .book))) (e .pre .0 .sound) (e .args .m) (e .args .h) (e .pre .3) .0, c .before .before .before .loop .inv .1)
 
-add-x : tie.Need-add-x Inv-loop μ-loop
-add-x c = omega arith
+add-y : tie.Need-add-y Inv-loop μ-loop
+add-y c = omega arith
 
 loop-less : tie.Need-loop-less Inv-loop μ-loop
 loop-less c = omega arith
@@ -77,8 +80,8 @@ loop-again c =
     let machine = holder-range (treeOf (now (e .args .book))) (e .pre .0 .sound) (e .args .m) (e .args .h) (e .pre .3) .0 in (
       omega arith,
       length-set (l .loop .up) _ _ ∙ l .loop .inv .1,
-      handed-more (l .loop .inv .2) (l .loop .inv .1) machine (omega arith) (c .find .result)
-          (c .find .ensures ∙ sym (inherits-held (treeOf (now (e .args .book))) (now (e .args .lands)) (e .args .m) (l .loop .x) (e .pre .3))),
+      handed-more (l .loop .inv .2) (l .loop .inv .1) machine (omega arith) (c .find .result) (omega arith)
+          (c .find .ensures ∙ sym (inherits-held (treeOf (now (e .args .book))) (now (e .args .lands)) (e .args .m) (l .loop .y) (e .pre .3))),
     )
 
 same-length : tie.Need-same-length Inv-loop μ-loop
@@ -96,12 +99,13 @@ inherit-spec =
     owner-requires
     loop-holds
     find-requires
+    sub-up
     mul-up
     add-up
     cast-up
     mul-up-2
     slice-write-up
-    add-x
+    add-y
     loop-less
     loop-again
     same-length

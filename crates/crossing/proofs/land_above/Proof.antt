@@ -8,12 +8,12 @@ use Rattle.definitions.specs.Book.{treeOf}
 use Rattle.stepping.proofs.Laws.{used-range, owner-told}
 use Rattle.crossing.specs.Parts.{isOpen}
 use Rattle.crossing.proofs.Upward.{used-holder, higher}
-use Rattle.crossing.proofs.Landing.{Descending, landing-starts, landing-ends, landing-on}
+use Rattle.crossing.proofs.Landing.{LandingWalk, landing-starts, landing-ends, landing-on}
 use Rattle.crossing.proofs.land_above.Statement.{statement}
 use Rattle.crossing.proofs.land_above.Tie as tie
 
 abbrev Inv-loop : tie.InvT-loop
-Inv-loop book opened s lands₀ n₀ lands n = Descending (treeOf book) (isOpen opened) s n lands₀ lands
+Inv-loop book opened s lands₀ n₀ lands n = LandingWalk (treeOf book) (isOpen opened) s n lands₀ lands
 
 abbrev μ-loop : tie.MeasureT-loop
 μ-loop book opened s lands₀ n₀ lands n = level (treeOf book) n

@@ -1,13 +1,8 @@
 -- `crossing::priced` meets its contract: the word for no transition has the word for absent as its target. Assumes nothing.
-use mathlib.Core.Path.{_∙_, sym, ap}
-use mathlib.Core.Option.{Option}
-use Prim.Native.Nat.{ℕ}
 use native.Mathlib.Omega.{arith}
 use borrow.Author.Needs.{needs}
 use Rattle.definitions.specs.Book.{transitionOf}
-use Rattle.truesheet.specs.Meaning.{exitOf}
 use Rattle.truesheet.proofs.Exits.{exits-none, exits-some}
-use Rattle.crossing.specs.Parts.{leaves}
 use Rattle.crossing.proofs.Tabling.{priced-costs, priced-never}
 use Rattle.crossing.proofs.priced.Statement.{statement}
 use Rattle.crossing.proofs.priced.Tie as tie
@@ -18,8 +13,8 @@ enum-known-exit c = search needs
 wide-requires : tie.Need-wide-requires
 wide-requires c κs = search needs
 
-add-t8 : tie.Need-add-t8
-add-t8 c = omega (arith, exits-some (c .before .before .before .before .pre .0) (c .before .before .exit .given .1) .1, c .wide .ensures .1)
+add-price : tie.Need-add-price
+add-price c = omega (arith, exits-some (c .before .before .before .before .pre .0) (c .before .before .exit .given .1) .1, c .wide .ensures .1)
 
 enum-told : tie.Need-enum-told
 enum-told c = search needs
@@ -36,4 +31,4 @@ returns-2 c =
     rw (exits-none (e .pre .0) (c .enum-told .given .1)) (priced-never 0 (transitionOf (e .args .w)))
 
 pub priced-spec : {M : Type 1} → statement M
-priced-spec = tie.close (tie.spec enum-known-exit wide-requires add-t8 enum-told returns returns-2)
+priced-spec = tie.close (tie.spec enum-known-exit wide-requires add-price enum-told returns returns-2)

@@ -1,10 +1,9 @@
 -- `crossing::tables` meets its contract: the machines above both nodes are opened, nodes land in them and they inherit, and the rows are filled
 -- from that. Assumes nothing.
 use mathlib.Core.Path.{refl, _∙_}
-use native.Mathlib.Omega.{arith}
 use borrow.Author.Needs.{needs}
 use Rattle.crossing.proofs.Opening.{closed, opened-both}
-use Rattle.crossing.proofs.Inheriting.{root-blank, prepared}
+use Rattle.crossing.proofs.Inheriting.{root-zeros, prepared}
 use Rattle.crossing.proofs.tables.Statement.{statement}
 use Rattle.crossing.proofs.tables.Tie as tie
 
@@ -44,7 +43,7 @@ inherit-above-requires c κs =
     let landed = c .before .before .before in
     let e = landed .before .before .before .before .before .before .before .before .before .before .before .before .before in
     let list = landed .landings .ensures .list in
-    (e .pre .0 .well-formed, list, refl, e .pre .1, root-blank (e .pre .0 .well-formed .sound) _ 1024 (omega arith))
+    (e .pre .0 .well-formed, list, refl, e .pre .1, root-zeros (e .pre .0 .well-formed .sound) _ 1024)
 
 slice-aggregate-inherit-above-3 : tie.Need-slice-aggregate-inherit-above-3
 slice-aggregate-inherit-above-3 c = search needs
@@ -61,7 +60,7 @@ inherit-above-requires-2 c κs =
       landed .landings .ensures .list,
       first .inherit-above .kept .1 .1 .1 .0,
       e .pre .2,
-      λ x range. first .inherit-above .ensures .kept _ x range (root-blank (e .pre .0 .well-formed .sound) _ 1024 (omega arith) x range),
+      λ x range. first .inherit-above .ensures .kept _ x range (root-zeros (e .pre .0 .well-formed .sound) _ 1024 x range),
     )
 
 slice-aggregate-rows : tie.Need-slice-aggregate-rows
