@@ -128,10 +128,10 @@ module _ {book sheet : List ℕ} {a b room : ℕ} (p : Plannable book sheet a b 
     pub the-plan : Plan t a b (getD dist b 0) list
     the-plan = subst (Planned t a b list) (distance-some dist (p .formed .sound .node-range b (p .used-b .0) (p .used-b .1)) there) found
 
+    -- it costs no more than a plan may, and its commands have room
     bounds : (length list ≤ states t - 1) × (getD dist b 0 ≤ largestPlanCost)
     bounds = plan-bounds t (p .formed .sound) a b (getD dist b 0) list (state-test t (p .used-a .1) (p .plain-a)) the-plan
 
-    -- it costs no more than a plan may, and its commands have room
     pub cost-fits : getD dist b 0 ≤ largestPlanCost
     cost-fits = bounds .1
 

@@ -1,6 +1,5 @@
 // Random numbers, always the same ones, and random places of the test's own station.
 ghost use Prim.Native.Nat.{_≤_};
-use crate::station::BELOW;
 use crate::station::LEVELS;
 use crate::station::MACHINES;
 use crate::station::NODES;
