@@ -9,17 +9,17 @@ use himm_model::flat::Flat;
 use himm_model::random::{Costs, Growth, Shape};
 use himm_model::COMMANDS;
 use holding::Holding;
-use rows::Agreement;
+use rows::{Agreement, Books};
 use timing::{print_head, timed, Times};
 
-fn books() -> Vec<(&'static str, Holding)> {
+/// How many books of a kind are taken in turn; there is one ladder.
+const BOOKS: u64 = 32;
+
+fn books() -> Vec<(&'static str, Books)> {
     let wide = Shape { filled: 60, ..Shape::full() };
     let chain = Shape { growth: Growth::EvenChain, machines: 8, nodes: 256, commands: COMMANDS, filled: 30, loops: 5, costs: Costs::Any };
-    vec![
-        ("the ladder", Holding::ladder()),
-        ("a random book", Holding::random(40, &wide)),
-        ("a chain of eight levels", Holding::random(41, &chain)),
-    ]
+    let of = |shape: &Shape| Books((0..BOOKS).map(|seed| Holding::random(40 + seed, shape)).collect());
+    vec![("the ladder", Books(vec![Holding::ladder()])), ("random books", of(&wide)), ("chains of eight levels", of(&chain))]
 }
 
 /// The same work again and again: what the machine adds by itself.
@@ -54,19 +54,19 @@ fn main() {
         "Times are medians in microseconds; a ratio is the median of the rounds' own ratios, with those of the 10th and the 90th percent."
     );
     println!("Buffers: plan buffers and outputs are cleared before each call and books copied, both outside the clock.");
-    println!("The two sides of a row, and the columns of the later tables, take turns round by round.");
+    println!("The two sides of a row, and the columns of the later tables, take turns round by round; in the first two tables each round has the next book.");
     println!("Our calls check lengths, book and sheet each time; the flat search and the model's load trust theirs.");
-    noise(&books[0].1);
+    noise(books[0].1.at(0));
     let mut agreement = Agreement::default();
     println!();
     println!("{:<38} {:<34} {:>9} {:>9} {:>8}   10 % .. 90 %", "ours", "against", "ours", "other", "ratio");
-    for (name, holding) in &books {
-        rows::all(name, holding, &mut agreement);
+    for (name, kind) in &books {
+        rows::all(name, kind, &mut agreement);
     }
     parts(&books);
     grown(&books, &mut agreement);
-    for (_, holding) in &books {
-        compare_all(holding, &mut agreement);
+    for (_, kind) in &books {
+        compare_all(kind.at(0), &mut agreement);
     }
     println!();
     println!("Answers compared: {}; both sides agreed on {}.", agreement.compared, agreement.compared - agreement.differed);
@@ -75,19 +75,19 @@ fn main() {
     }
 }
 
-fn parts(books: &[(&str, Holding)]) {
+fn parts(books: &[(&str, Books)]) {
     print_head("parts of a plan", &["lengths", "book", "sheet", "the rest", "plan"]);
-    for (name, holding) in books {
-        rows::parts(name, holding);
+    for (name, kind) in books {
+        rows::parts(name, kind);
     }
 }
 
-fn grown(books: &[(&str, Holding)], agreement: &mut Agreement) {
+fn grown(books: &[(&str, Books)], agreement: &mut Agreement) {
     growth::by_states(agreement);
     growth::by_levels(agreement);
     print_head("by edits", &["refresh", "all stale", "ratio"]);
-    for (name, holding) in books {
-        growth::by_edits(name, holding);
+    for (name, kind) in books {
+        growth::by_edits(name, kind.at(0));
     }
     growth::by_bytes();
 }

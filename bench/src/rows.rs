@@ -1,4 +1,4 @@
-//! One book's rows of the first table, and its parts of a plan.
+//! The rows of one kind of book in the first table, and its parts of a plan.
 
 use crate::holding::Holding;
 use crate::timing::{medians, print_row, rounds, timed, Times};
@@ -28,43 +28,71 @@ impl Agreement {
     }
 }
 
-pub fn all(name: &str, holding: &Holding, agreement: &mut Agreement) {
-    let ways = holding.pairs(ROUNDS).iter().filter(|&&(a, b)| Flat::of(&holding.book).search(a as usize, b as usize).is_some()).count();
-    println!();
-    println!(
-        "{name}: {} machines, {} states, {} bytes as a stream; a way in {ways} of {ROUNDS} pairs",
-        holding.tree.machines_in_use().len(),
-        holding.tree.states().len(),
-        holding.stream().len()
-    );
-    plans(holding, agreement);
-    edits(holding, agreement);
-    steps(holding, agreement);
-    loads(holding, agreement);
-    refreshes(holding, agreement);
-    writes(holding, agreement);
+/// Books of one kind, taken in turn round by round, so that no side meets the same book twice in a row.
+pub struct Books(pub Vec<Holding>);
+
+impl Books {
+    pub fn at(&self, round: usize) -> &Holding {
+        &self.0[round % self.0.len()]
+    }
+
+    /// What each round needs of its book, made before the clock runs.
+    fn each<T>(&self, make: impl Fn(usize, &Holding) -> T) -> Vec<T> {
+        (0..ROUNDS).map(|round| make(round, self.at(round))).collect()
+    }
+
+    fn pairs(&self) -> Vec<(u32, u32)> {
+        let all: Vec<_> = self.0.iter().map(|holding| holding.pairs(ROUNDS)).collect();
+        self.each(|round, _| all[round % all.len()][round])
+    }
+
+    fn edits(&self, seed: u64) -> Vec<Vec<u8>> {
+        let all: Vec<_> = self.0.iter().map(|holding| holding.edits(ROUNDS, seed)).collect();
+        self.each(|round, _| all[round % all.len()][round].clone())
+    }
 }
 
-fn plans(holding: &Holding, agreement: &mut Agreement) {
-    let pairs = holding.pairs(ROUNDS);
-    let flat = Flat::of(&holding.book);
+pub fn all(name: &str, books: &Books, agreement: &mut Agreement) {
+    let pairs = books.pairs();
+    let ways = (0..ROUNDS).filter(|&i| Flat::of(&books.at(i).book).search(pairs[i].0 as usize, pairs[i].1 as usize).is_some()).count();
+    let mean = |count: &dyn Fn(&Holding) -> usize| books.0.iter().map(count).sum::<usize>() / books.0.len();
+    println!();
+    println!(
+        "{name}: {} in turn, in the mean {} machines, {} states, {} bytes as a stream; a way in {ways} of {ROUNDS} pairs",
+        books.0.len(),
+        mean(&|holding| holding.tree.machines_in_use().len()),
+        mean(&|holding| holding.tree.states().len()),
+        mean(&|holding| holding.stream().len())
+    );
+    plans(books, agreement);
+    edits(books, agreement);
+    steps(books, agreement);
+    loads(books, agreement);
+    refreshes(books, agreement);
+    writes(books, agreement);
+}
+
+fn plans(books: &Books, agreement: &mut Agreement) {
+    let pairs = books.pairs();
+    let flats: Vec<Flat> = books.0.iter().map(|holding| Flat::of(&holding.book)).collect();
     let search = |flat: &Flat, i: usize| flat.search(pairs[i].0 as usize, pairs[i].1 as usize).map(|way| way.cost);
-    let whole = |i, times: &mut _| timed(times, || search(&Flat::of(&holding.book), i));
-    rounds(ROUNDS, |i, t| holding.plan(pairs[i], t), whole, |a, b| agreement.of(a, b)).print("plan", "flatten and search");
-    let plain = |i, times: &mut _| timed(times, || search(&Flat::step_by_step(&holding.book), i));
-    rounds(ROUNDS, |i, t| holding.plan(pairs[i], t), plain, |a, b| agreement.of(a, b)).print("plan", "flatten step by step and search");
-    let alone = |i, times: &mut _| timed(times, || search(&flat, i));
-    rounds(ROUNDS, |i, t| holding.plan(pairs[i], t), alone, |a, b| agreement.of(a, b)).print("plan", "search alone");
-    let flatten = |_, times: &mut _| timed(times, || Flat::of(&holding.book));
-    rounds(ROUNDS, |_, t| holding.check_both(t), flatten, |_, _| ()).print("checks of a plan alone", "flatten alone");
+    let plan = |i: usize, times: &mut _| books.at(i).plan(pairs[i], times);
+    let whole = |i: usize, times: &mut _| timed(times, || search(&Flat::of(&books.at(i).book), i));
+    rounds(ROUNDS, plan, whole, |a, b| agreement.of(a, b)).print("plan", "flatten and search");
+    let plain = |i: usize, times: &mut _| timed(times, || search(&Flat::step_by_step(&books.at(i).book), i));
+    rounds(ROUNDS, plan, plain, |a, b| agreement.of(a, b)).print("plan", "flatten step by step and search");
+    let alone = |i: usize, times: &mut _| timed(times, || search(&flats[i % flats.len()], i));
+    rounds(ROUNDS, plan, alone, |a, b| agreement.of(a, b)).print("plan", "search alone");
+    let flatten = |i: usize, times: &mut _| timed(times, || Flat::of(&books.at(i).book));
+    rounds(ROUNDS, |i, t| books.at(i).check_both(t), flatten, |_, _| ()).print("checks of a plan alone", "flatten alone");
 }
 
 /// One edit, then a plan: with a refresh in between on our side, with a new flattening on the other.
-fn edits(holding: &Holding, agreement: &mut Agreement) {
-    let (pairs, edits) = (holding.pairs(ROUNDS), holding.edits(ROUNDS, 5));
-    let ours = |i: usize, times: &mut _| edit_and_plan(holding, &edits[i], pairs[i], times);
+fn edits(books: &Books, agreement: &mut Agreement) {
+    let (pairs, edits) = (books.pairs(), books.edits(5));
+    let ours = |i: usize, times: &mut _| edit_and_plan(books.at(i), &edits[i], pairs[i], times);
     let theirs = |i: usize, times: &mut _| {
-        let mut words = holding.book.clone();
+        let mut words = books.at(i).book.clone();
         timed(times, || set(&mut words, &edits[i]).search(pairs[i].0 as usize, pairs[i].1 as usize)).map(|way| way.cost)
     };
     rounds(ROUNDS, ours, theirs, |a, b| agreement.of(a, b)).print("edit, refresh and plan", "edit, flatten and search");
@@ -87,25 +115,27 @@ fn set(words: &mut [u32], edit: &[u8]) -> Flat {
     Flat::of(words)
 }
 
-fn steps(holding: &Holding, agreement: &mut Agreement) {
-    let (states, mut random) = (holding.tree.states(), Random::new(3));
-    let places: Vec<(usize, usize)> = (0..ROUNDS).map(|_| (random.pick(&states), random.below(COMMANDS))).collect();
+fn steps(books: &Books, agreement: &mut Agreement) {
+    let places = books.each(|round, holding| {
+        let mut random = Random::new(round as u64);
+        (random.pick(&holding.tree.states()), random.below(COMMANDS))
+    });
     let ours = |i: usize, times: &mut _| {
         let (s, x) = places[i];
-        timed(times, || himm::step(&holding.book, s as u32, x as u32)).ok().map(|a| (a.state as usize, a.cost))
+        timed(times, || himm::step(&books.at(i).book, s as u32, x as u32)).ok().map(|a| (a.state as usize, a.cost))
     };
-    let theirs = |i: usize, times: &mut _| timed(times, || Flat::of(&holding.book).step(places[i].0, places[i].1));
+    let theirs = |i: usize, times: &mut _| timed(times, || Flat::of(&books.at(i).book).step(places[i].0, places[i].1));
     rounds(ROUNDS, ours, theirs, |a, b| agreement.of(a, b)).print("step", "flatten and look up");
 }
 
-/// The book's own stream into a fresh holding; the model edits its tree and encodes it.
-fn loads(holding: &Holding, agreement: &mut Agreement) {
-    let (stream, fresh) = (holding.stream(), Holding::fresh());
-    let ours = |_, times: &mut _| fresh.load(&stream, times).0;
-    let theirs = |_, times: &mut _| {
+/// A book's own stream into a fresh holding; the model edits its tree and encodes it.
+fn loads(books: &Books, agreement: &mut Agreement) {
+    let (streams, fresh) = (books.0.iter().map(Holding::stream).collect::<Vec<_>>(), Holding::fresh());
+    let ours = |i: usize, times: &mut _| fresh.load(&streams[i % streams.len()], times).0;
+    let theirs = |i: usize, times: &mut _| {
         timed(times, || {
             let mut station = Station::stale(fresh.tree.clone());
-            station.load(&stream);
+            station.load(&streams[i % streams.len()]);
             book::encode(&station.tree)
         })
     };
@@ -113,36 +143,36 @@ fn loads(holding: &Holding, agreement: &mut Agreement) {
 }
 
 /// One edit and a refresh of what it left stale, against the same edit and a refresh of everything; both leave the same book.
-fn refreshes(holding: &Holding, agreement: &mut Agreement) {
-    let stale = holding.stale();
-    let edits: Vec<Vec<u8>> = holding.edits(ROUNDS, 9).iter().map(|edit| [&edit[..], &[himm::REFRESH]].concat()).collect();
-    let one = |i: usize, times: &mut _| holding.load(&edits[i], times).0;
-    let all = |i: usize, times: &mut _| stale.load(&edits[i], times).0;
+fn refreshes(books: &Books, agreement: &mut Agreement) {
+    let stale = Books(books.0.iter().map(Holding::stale).collect());
+    let edits: Vec<Vec<u8>> = books.edits(9).iter().map(|edit| [&edit[..], &[himm::REFRESH]].concat()).collect();
+    let one = |i: usize, times: &mut _| books.at(i).load(&edits[i], times).0;
+    let all = |i: usize, times: &mut _| stale.at(i).load(&edits[i], times).0;
     rounds(ROUNDS, one, all, |a, b| agreement.of(a, b)).print("one edit and refresh", "the same, all stale (ours)");
-    let flatten = |_, times: &mut _| timed(times, || Flat::of(&holding.book));
+    let flatten = |i: usize, times: &mut _| timed(times, || Flat::of(&books.at(i).book));
     rounds(ROUNDS, all, flatten, |_, _| ()).print("one edit and refresh, all stale", "flatten alone");
-    let nothing = |_, times: &mut _| holding.load(&[], times);
+    let nothing = |i: usize, times: &mut _| books.at(i).load(&[], times);
     rounds(ROUNDS, nothing, all, |_, _| ()).print("load of an empty stream", "one edit, all stale (ours)");
 }
 
-fn writes(holding: &Holding, agreement: &mut Agreement) {
+fn writes(books: &Books, agreement: &mut Agreement) {
     let mut out = vec![0; himm::STREAM_BYTES];
-    let ours = |_, times: &mut _| holding.write(&mut out, times);
-    let theirs = |_, times: &mut _| timed(times, || write::stream(&book::decode(&holding.book).expect("a book"))).len();
+    let ours = |i: usize, times: &mut _| books.at(i).write(&mut out, times);
+    let theirs = |i: usize, times: &mut _| timed(times, || write::stream(&book::decode(&books.at(i).book).expect("a book"))).len();
     rounds(ROUNDS / 4, ours, theirs, |a, b| agreement.of(a, b)).print("write", "the plain model's write");
 }
 
 /// Where a plan's time goes: lengths, book, sheet, and the rest, which is the search and the expansion.
-pub fn parts(name: &str, holding: &Holding) {
-    let pairs = holding.pairs(ROUNDS);
+pub fn parts(name: &str, books: &Books) {
+    let pairs = books.pairs();
     let times = medians(
         ROUNDS,
         vec![
-            Box::new(|_, t: &mut Times| holding.check_lengths(t)),
-            Box::new(|_, t: &mut Times| holding.check_book(t)),
-            Box::new(|_, t: &mut Times| holding.check_both(t)),
+            Box::new(|i, t: &mut Times| books.at(i).check_lengths(t)),
+            Box::new(|i, t: &mut Times| books.at(i).check_book(t)),
+            Box::new(|i, t: &mut Times| books.at(i).check_both(t)),
             Box::new(|i, t: &mut Times| {
-                holding.plan(pairs[i], t);
+                books.at(i).plan(pairs[i], t);
             }),
         ],
     );
