@@ -162,17 +162,19 @@ fn writes(books: &Books, agreement: &mut Agreement) {
     rounds(ROUNDS / 4, ours, theirs, |a, b| agreement.of(a, b)).print("write", "the plain model's write");
 }
 
-/// Where a plan's time goes: lengths, book, sheet, and the rest, which is the search and the expansion.
+/// Where a plan's time goes: lengths, book, sheet, and the rest, which is the tables, the search and the expansion. In each round every column
+/// has another book, so that none finds its book looked at just before.
 pub fn parts(name: &str, books: &Books) {
     let pairs = books.pairs();
+    let later = |round: usize, by: usize| (round + by) % ROUNDS;
     let times = medians(
         ROUNDS,
         vec![
             Box::new(|i, t: &mut Times| books.at(i).check_lengths(t)),
-            Box::new(|i, t: &mut Times| books.at(i).check_book(t)),
-            Box::new(|i, t: &mut Times| books.at(i).check_both(t)),
+            Box::new(|i, t: &mut Times| books.at(later(i, 8)).check_book(t)),
+            Box::new(|i, t: &mut Times| books.at(later(i, 16)).check_both(t)),
             Box::new(|i, t: &mut Times| {
-                books.at(i).plan(pairs[i], t);
+                books.at(later(i, 24)).plan(pairs[later(i, 24)], t);
             }),
         ],
     );

@@ -51,10 +51,6 @@ gathered-none t m room places-room =
     }
 
 module _ {t : Tree} {m n k : ℕ} {members places : List ℕ} (g : Gathered t m n k members places) where
-  -- there is room for one more
-  pub gathered-room : n < nodes → k < nodes
-  gathered-room small = omega (arith, g .many)
-
   -- node n belongs to another machine
   pub gathered-skip : (t .owner n ≡ some m → ⊥) → Gathered t m (n + 1) k members places
   gathered-skip other =

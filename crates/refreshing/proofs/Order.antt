@@ -13,7 +13,7 @@ use Rattle.definitions.specs.Tree.{Tree, Sound}
 use Rattle.definitions.specs.Sheet.{Rows, rowsOf}
 use Rattle.definitions.specs.Truth.{TrueSheet}
 use Rattle.definitions.proofs.Options.{true-false, present, equal-or-not}
-use Rattle.definitions.proofs.Words.{marks-words, words-marks}
+use Rattle.definitions.proofs.Words.{marks-words}
 use Rattle.sheet.specs.Fields.{Mark}
 use Rattle.refreshing.specs.Parts.{Fills}
 use Rattle.refreshing.specs.Refresh.{machineLevel, Fillable, Filled, Kept, FreshBelow, StepFilled, LevelFilled, FilledBelow, Refreshes}
@@ -168,9 +168,3 @@ module _ {t : Tree} where
         };
         words = sym (marks-words after (done .holds .length) (done .holds .marks));
       }
-
--- what a refresh leaves is a true sheet
-pub refreshes-true : {t : Tree} {sheet after : List ℕ} → Refreshes t sheet after → TrueSheet t after
-refreshes-true {after = after} done =
-    let (long, marks) = words-marks after (sym (done .words)) in
-    record { length = long; marks = marks; rows = done .rows .filled }

@@ -3,18 +3,17 @@ use mathlib.Core.Path.{_≡_, refl, sym, _∙_, ap}
 use mathlib.Core.Bool.{Bool, true, false, cond}
 use mathlib.Core.Option.{Option, none, some}
 use mathlib.Core.List.{List}
-use Prim.Native.Nat.{ℕ, _+_, _*_, _≤_, _<_}
+use Prim.Native.Nat.{ℕ, _+_, _*_, _<_}
 use lib.Dec.{eqb, ltb}
-use native.Mathlib.Omega.{arith}
-use lib.ListN.{length, getD}
+use lib.ListN.{getD}
 use borrow.Author.Tests.{eq-eqb, ne-eqb, eqb-true, eqb-false, ltb-true}
 use Rattle.definitions.specs.Basics.{_>>=_}
-use Rattle.definitions.specs.Limits.{nodes, commands, absent}
+use Rattle.definitions.specs.Limits.{commands, absent}
 use Rattle.definitions.specs.Step.{Arrival}
 use Rattle.definitions.specs.Book.{number, under}
 use Rattle.definitions.proofs.Options.{bind-some, none-some, some-same}
 use Rattle.definitions.proofs.Words.{under-in}
-use Rattle.search.specs.Search.{largestMove, unreached, reached, rowMove, moveOf, distanceOf, nameOf, Tables}
+use Rattle.search.specs.Search.{unreached, reached, rowMove, moveOf, distanceOf, nameOf}
 use Rattle.search.specs.Parts.{at}
 
 -- ---- a number under its limit
@@ -85,12 +84,6 @@ module _ (k : ℕ) (words : List ℕ) (v : ℕ) where
   unfolding nameOf number
   name-is range h = under-in k v (number (at words v)) range ∙ says absent (at words v) h
 
-  pub name-some : {n : ℕ} → nameOf k words v ≡ some n → (v < k) × (at words v ≡ n)
-  unfolding nameOf number
-  name-some e =
-      let (range, there) = under-some k v (number (at words v)) e in
-      (range, said absent (at words v) there .0)
-
   pub name-none : (v < k → at words v ≡ absent) → nameOf k words v ≡ none
   unfolding nameOf number
   name-none blank = under-none k v (number (at words v)) (λ range. rw (eq-eqb (at words v) absent (blank range)))
@@ -135,26 +128,3 @@ module _ (target price : List ℕ) (u x : ℕ) where
       let (is, word) = said absent (getD target (commands * u + x) 0) has in
       let at : record { node = v; cost = getD price (commands * u + x) 0 } ≡ b = some-same refl same in
       (range, word, is ∙ ap (λ (a : Arrival). a .node) at, ap (λ (a : Arrival). a .cost) at)
-
--- tables whose words are in range
-pub tables-words : {k source : ℕ} (target price : List ℕ) → source < k → k ≤ nodes → commands * k ≤ length target → commands * k ≤ length price
-    → ((u x : ℕ) → u < k → x < commands → (getD target (commands * u + x) 0 ≡ absent → ⊥)
-    → (getD target (commands * u + x) 0 < k) × (getD price (commands * u + x) 0 ≤ largestMove))
-    → Tables k source target price
-tables-words {k} target price has-source small targets prices words =
-    record {
-      has-source = has-source;
-      small = small;
-      targets = targets;
-      prices = prices;
-      inside =
-          λ u x b e.
-          let (row, there) = move-some target price u x k e in
-          let (range, word, node, cost) = row-words target price u x there in
-          omega (arith, words u x row range word);
-      cheap =
-          λ u x b e.
-          let (row, there) = move-some target price u x k e in
-          let (range, word, node, cost) = row-words target price u x there in
-          omega (arith, words u x row range word);
-    }

@@ -4,7 +4,7 @@ ghost use mathlib.Core.Path.{_≡_};
 ghost use Prim.Native.Nat.{_<_};
 ghost use lib.ListN.{length};
 ghost use Rattle.definitions.specs.Limits.{machines, nodes, commands, levels, bookLength};
-ghost use Rattle.definitions.specs.Tree.{Tree, parent};
+ghost use Rattle.definitions.specs.Tree.{parent};
 ghost use Rattle.definitions.specs.Book.{word, treeOf, WellFormed};
 ghost use Rattle.wellformed.specs.Decides.{Decides};
 ghost use Rattle.wellformed.specs.Fits.{Climbs, RootFits, StartFits, HolderFits, MachineFits, MachinesFit};
