@@ -76,7 +76,7 @@ fn main() {
 }
 
 fn parts(books: &[(&str, Books)]) {
-    print_head("parts of a plan", &["lengths", "book", "sheet", "the rest", "plan"]);
+    print_head("parts of a plan", &["lengths", "book", "sheet", "the rest", "plan", "search"]);
     for (name, kind) in books {
         rows::parts(name, kind);
     }

@@ -28,7 +28,7 @@ impl Agreement {
     }
 }
 
-/// Books of one kind, taken in turn round by round, so that no side meets the same book twice in a row.
+/// Books of one kind, taken in turn round by round, so that no side meets the same book twice in a row where there is more than one.
 pub struct Books(pub Vec<Holding>);
 
 impl Books {
@@ -162,11 +162,12 @@ fn writes(books: &Books, agreement: &mut Agreement) {
     rounds(ROUNDS / 4, ours, theirs, |a, b| agreement.of(a, b)).print("write", "the plain model's write");
 }
 
-/// Where a plan's time goes: lengths, book, sheet, and the rest, which is the tables, the search and the expansion. In each round every column
-/// has another book, so that none finds its book looked at just before.
+/// Where a plan's time goes: lengths, book, sheet, and the rest, which is the tables, the search and the expansion; beside it the flat search alone. In each round every column
+/// has another book where there are 32, so that none finds its book looked at just before.
 pub fn parts(name: &str, books: &Books) {
     let pairs = books.pairs();
-    let later = |round: usize, by: usize| (round + by) % ROUNDS;
+    let flats: Vec<Flat> = books.0.iter().map(|holding| Flat::of(&holding.book)).collect();
+    let later = |round: usize, by: usize| (round + by) % (ROUNDS - ROUNDS % 32);
     let times = medians(
         ROUNDS,
         vec![
@@ -176,7 +177,11 @@ pub fn parts(name: &str, books: &Books) {
             Box::new(|i, t: &mut Times| {
                 books.at(later(i, 24)).plan(pairs[later(i, 24)], t);
             }),
+            Box::new(|i, t: &mut Times| {
+                let (from, to) = pairs[later(i, 4)];
+                timed(t, || flats[later(i, 4) % flats.len()].search(from as usize, to as usize));
+            }),
         ],
     );
-    print_row(name, &[times[0], times[1], times[2] - times[1], times[3] - times[2], times[3]]);
+    print_row(name, &[times[0], times[1], times[2] - times[1], times[3] - times[2], times[3], times[4]]);
 }

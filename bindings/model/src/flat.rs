@@ -52,7 +52,7 @@ impl Flat {
         done[n] = true;
     }
 
-    /// The same by the text of document 01 alone: each state and command climbs and enters by itself.
+    /// The same for states, by the text of document 01 alone: each state and command climbs and enters by itself.
     pub fn step_by_step(book: &[u32]) -> Flat {
         let mut flat = Flat { moves: vec![[BLANK; COMMANDS]; NODES] };
         for n in (0..NODES).filter(|&n| book[node_at(n)] != ABSENT && book[node_at(n) + 1] == ABSENT) {

@@ -72,7 +72,7 @@ landed lands (passed c) = none
 unfoldable pub finds : Tree → List ℕ → ℕ → ℕ → Option Transition
 finds t lands n x = landed lands (climb t (t .root) n x)
 
--- what machine m inherits for command x, which none of its nodes catches: what x finds from the node that holds m, and for the root nothing
+-- what a node of machine m that has no transition for x takes over: what x finds from the node that holds m, and for the root nothing
 unfoldable pub inherits : Tree → List ℕ → ℕ → ℕ → Option Transition
 inherits t lands m x = t .holder m >>= λ h. finds t lands h x
 

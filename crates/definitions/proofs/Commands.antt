@@ -427,7 +427,7 @@ over-used {t} s p n e =
     s .owner-used d p (isAt-true (t .owner d) p at)
 
 -- a node is within itself
-within-self : (t : Tree) (n : ℕ) → within t n n ≡ true
+pub within-self : (t : Tree) (n : ℕ) → within t n n ≡ true
 unfolding within path pathF anyOf
 within-self t n = rw (eq-eqb n n refl)
 

@@ -7,13 +7,14 @@ use mathlib.Core.Option.{some}
 use mathlib.Core.List.{List}
 use Prim.Native.Nat.{ℕ, _+_, _-_, _≤_, _<_}
 use native.Mathlib.Omega.{arith}
-use borrow.Author.Tests.{eq-eqb, ne-eqb}
+use borrow.Author.Tests.{ne-eqb}
 use Rattle.definitions.specs.Limits.{machines, levels}
 use Rattle.definitions.specs.Tree.{Tree, Sound}
 use Rattle.definitions.specs.Sheet.{Rows, rowsOf}
 use Rattle.definitions.specs.Truth.{TrueSheet}
 use Rattle.definitions.proofs.Options.{true-false, present, equal-or-not}
 use Rattle.definitions.proofs.Words.{marks-words}
+use Rattle.truesheet.proofs.Machines.{is-stale}
 use Rattle.sheet.specs.Fields.{Mark}
 use Rattle.refreshing.specs.Parts.{Fills}
 use Rattle.refreshing.specs.Refresh.{machineLevel, Fillable, Filled, Kept, FreshBelow, StepFilled, LevelFilled, FilledBelow, Refreshes}
@@ -60,10 +61,6 @@ kept-fills {t} {m} {r} stale fills =
 
 -- ---- one machine
 
--- a machine whose mark is 1 is stale
-marked : {sheet : List ℕ} {m w : ℕ} → Mark sheet m w → w ≡ 1 → rowsOf sheet .stale m ≡ true
-marked {w = w} mark is = mark .says ∙ eq-eqb w 1 is
-
 module _ {t : Tree} {l m : ℕ} {sheet : List ℕ} (holds : TrueSheet t sheet) where
   -- a machine of another level
   pub step-other : {here : ℕ} → here ≡ machineLevel t m → (here ≡ l → ⊥) → StepFilled t l m sheet sheet
@@ -81,15 +78,15 @@ module _ {t : Tree} {l m : ℕ} {sheet : List ℕ} (holds : TrueSheet t sheet) w
     step-fillable low level-is same =
         record {
           used =
-              ⊎-elim (λ off. absurd (true-false (marked mark is) (holds .rows .blanks .unused-stale m off))) (λ used. used)
+              ⊎-elim (λ off. absurd (true-false (is-stale mark is) (holds .rows .blanks .unused-stale m off))) (λ used. used)
               (present (t .start m));
-          stale = marked mark is;
+          stale = is-stale mark is;
           below = λ n b own down. low .fresh b (omega (arith, level-below sound own down));
         }
 
     pub step-filled : {after : List ℕ} → Filled t m sheet after → StepFilled t l m sheet after
     step-filled filled =
-        record { holds = filled .holds; kept = kept-fills (marked mark is) (filled .fills); here = λ same. filled .fills .fresh }
+        record { holds = filled .holds; kept = kept-fills (is-stale mark is) (filled .fills); here = λ same. filled .fills .fresh }
 
 -- ---- one level
 

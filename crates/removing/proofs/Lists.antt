@@ -9,7 +9,7 @@ use native.Mathlib.Omega.{arith}
 use lib.Dec.{eqb}
 use lib.ListN.{length, set, length-set}
 use lib.Seq.{getD-set-same, getD-set-other}
-use borrow.Author.Tests.{eq-eqb, ne-eqb}
+use borrow.Author.Tests.{ne-eqb}
 use Rattle.definitions.specs.Basics.{option, anyOf}
 use Rattle.definitions.specs.Limits.{machines, nodes, absent}
 use Rattle.definitions.specs.Tree.{Tree, above, pathF, path, level, within}
@@ -18,14 +18,9 @@ use Rattle.definitions.specs.Edit.{heldWithin}
 use Rattle.definitions.proofs.Options.{present, equal-or-not}
 use Rattle.definitions.proofs.Path.{level-on}
 use Rattle.definitions.proofs.Words.{present-word, no-owner, no-holder, owner-range, holder-range}
-use Rattle.definitions.proofs.Commands.{within-top, within-up}
+use Rattle.definitions.proofs.Commands.{within-self, within-top, within-up}
 use Rattle.marking.specs.Chosen.{chosen}
 use Rattle.removing.specs.Within.{Listed, goesWith}
-
--- a node is within itself
-within-self : (t : Tree) (n : ℕ) → within t n n ≡ true
-unfolding within path pathF anyOf
-within-self t n = rw (eq-eqb n n refl)
 
 -- a node that is not in use is within itself alone
 within-unused : (t : Tree) (n : ℕ) {d : ℕ} → t .owner d ≡ none → within t n d ≡ eqb n d

@@ -119,7 +119,7 @@ fn remove_at(book: &mut [u32], sheet: &mut [u32], gone: &[u32; 64], p: u32, n: u
     clear_into_from(book, k, n);
 }
 
-// Drops node n and the nodes below it, and clears the transitions into n. The list has 1 at each machine that is held below n. Every node
+// Drops node n and the nodes below it, and clears the transitions into n. The list has 1 at each machine that n or a node below it holds. Every node
 // is looked at once; its machine is read before its record is emptied.
 fn remove_nodes(book: &mut [u32], sheet: &mut [u32], gone: &[u32; 64], n: u32)
     requires { ⌜ WellFormed (now book) × (length (now sheet) ≡ sheetLength) × Used (treeOf (now book)) n × Listed machines (heldWithin (treeOf (now book)) n) (now gone) ⌝ }

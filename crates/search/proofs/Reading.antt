@@ -12,20 +12,11 @@ use Rattle.definitions.specs.Limits.{commands, absent}
 use Rattle.definitions.specs.Step.{Arrival}
 use Rattle.definitions.specs.Book.{number, under}
 use Rattle.definitions.proofs.Options.{bind-some, none-some, some-same}
-use Rattle.definitions.proofs.Words.{under-in}
+use Rattle.definitions.proofs.Words.{under-in, under-some}
 use Rattle.search.specs.Search.{unreached, reached, rowMove, moveOf, distanceOf, nameOf}
 use Rattle.search.specs.Parts.{at}
 
 -- ---- a number under its limit
-
--- what is read under a limit is there, and the number is under the limit
-under-some : {A : Type 0} (limit i : ℕ) (o : Option A) {a : A} → under limit i o ≡ some a → (i < limit) × (o ≡ some a)
-unfolding under
-under-some {A} limit i o {a} e = go (ltb i limit) refl
-  where
-    go : (t : Bool) → ltb i limit ≡ t → (i < limit) × (o ≡ some a)
-    go true h = (ltb-true i limit h, rw h at e)
-    go false h = absurd (none-some {o = none} {a = a} refl (rw h at e))
 
 -- nothing is read under a limit where nothing is there
 under-none : {A : Type 0} (limit i : ℕ) (o : Option A) → (i < limit → o ≡ none) → under limit i o ≡ none

@@ -191,7 +191,7 @@ fn settle(
 // Finds the least costs from the source over k nodes, at most 256, up to the goal, a node; all of them where the goal is none of the k. Row u of the
 // tables, the 16 entries from 16 * u on, has the moves of node u: where each leads, ABSENT where there is none, and what it costs, at most
 // LARGEST. For each node it leaves the distance and the names of the move by which it is reached, UNREACHED and ABSENT where it is not; entries
-// from k on are untouched. Nodes that are no nearer than the goal may have been left at a distance that is not the least.
+// from k on are untouched. Nodes that are no nearer than the goal may have been left at a distance that is not the least, or at none.
 pub fn search(
     k: usize,
     source: usize,

@@ -43,22 +43,33 @@ fn put_at(list: &mut [u8], at: usize, byte: u8) {
     }
 }
 
-// Arrows to the place 65,528, a refresh, a plan, and at 65,534 a plan that the end of what is read cuts short. Their operands are all 0.
+// Arrows to the place 65,528. Their operands are all 0.
 fn fill_long(list: &mut [u8]) {
     let mut i = 0usize;
     while i < 65528 {
         put_at(list, i, 0x14);
         i += 8;
     }
-    put_at(list, 65528, 0x18);
-    put_at(list, 65529, 0x19);
-    put_at(list, 65534, 0x19);
 }
 
-// The session for an input over the limit.
-fn show_long(text: &[u8]) {
+// The session for an input over the limit: arrows, a refresh, a plan, and at 65,534 a plan that the end of what is read cuts short.
+fn show_cut(text: &[u8]) {
     let mut list = [0u8; 65600];
     fill_long(&mut list);
+    put_at(&mut list, 65528, 0x18);
+    put_at(&mut list, 65529, 0x19);
+    put_at(&mut list, 65534, 0x19);
+    show(text, &list);
+}
+
+// The same where the last byte that is read ends a plan, and the next would be an unknown opcode.
+fn show_whole(text: &[u8]) {
+    let mut list = [0u8; 65600];
+    fill_long(&mut list);
+    put_at(&mut list, 65528, 0x18);
+    put_at(&mut list, 65529, 0x18);
+    put_at(&mut list, 65530, 0x18);
+    put_at(&mut list, 65531, 0x19);
     show(text, &list);
 }
 
@@ -97,5 +108,6 @@ fn main() {
         &mut list,
         b"\x18\x19\x00\x00\x00\x02\x13\x00\x0A\x19\x00\x00\x00\x02",
     );
-    show_long(b"more than 65,536 bytes:");
+    show_cut(b"more than 65,536 bytes:");
+    show_whole(b"a plan that ends with the 65,536th byte:");
 }

@@ -13,11 +13,10 @@ use Rattle.definitions.specs.Book.{word}
 use Rattle.definitions.specs.Sheet.{Rows, costWord, costOf}
 use Rattle.definitions.specs.Truth.{nodeExit}
 use Rattle.definitions.proofs.Options.{none-some, some-same}
-use Rattle.definitions.proofs.Words.{below-range, no-below}
+use Rattle.definitions.proofs.Words.{present-word, below-range, no-below}
 use Rattle.definitions.proofs.Local.{exit-plain, exit-refined}
 use Rattle.wellformed.specs.Decides.{Decides}
 use Rattle.wellformed.proofs.Decide.{decides-equal}
-use Rattle.wellformed.proofs.Reading.{said}
 use Rattle.truesheet.specs.declared.OwnExit.{OwnExit}
 use Rattle.truesheet.specs.declared.OwnExit.the-variants.{Costs, Never}
 use Rattle.truesheet.specs.Meaning.{exitOf, exitLimit, Exits}
@@ -53,7 +52,7 @@ module _ {t : Tree} (s : Sound t) {r : Rows} (read : ReadRows r) (n x : ℕ) {b 
   -- a refined node is left as the machine below it is
   module _ (other : b ≡ absent → ⊥) {e : ℕ} (exit : e ≡ costWord (r .exit (b % machines) x)) where
     holds : t .below n ≡ some b
-    holds = said (t .below n) below other
+    holds = present-word (t .below n) below other
 
     below-exit : e ≡ costWord (r .exit b x)
     below-exit =

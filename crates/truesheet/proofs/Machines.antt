@@ -15,11 +15,11 @@ use Rattle.definitions.specs.Book.{word, transitionWord}
 use Rattle.definitions.specs.Sheet.{Rows, costWord, rowsOf}
 use Rattle.definitions.specs.Truth.{BlankMachine, Ended}
 use Rattle.definitions.proofs.Options.{bind-some, none-some, some-same, true-false}
-use Rattle.definitions.proofs.Words.{owner-range, holder-range, no-holder, no-start, no-transition}
+use Rattle.definitions.proofs.Words.{present-word, owner-range, holder-range, no-holder, no-start, no-transition}
 use Rattle.sheet.specs.Fields.{Mark}
 use Rattle.wellformed.specs.Decides.{Decides}
 use Rattle.wellformed.proofs.Decide.{decides-same, decides-equal}
-use Rattle.wellformed.proofs.Reading.{said-is, unsaid-is, said, unsaid}
+use Rattle.wellformed.proofs.Reading.{said-is, unsaid-is, unsaid}
 use Rattle.truesheet.specs.Fits.{AddsUp, BlankExit, ExitFits, ExitsFit, AboveStale, MachineFits}
 use Rattle.truesheet.proofs.Reading.{ReadRows, cost-is, blank-is, cost-said, cost-unsaid}
 
@@ -63,8 +63,8 @@ module _ {t : Tree} (s : Sound t) (r : Rows) (m x c : ℕ) {u : ℕ} (last : u �
         node = u;
         node-cost = up .node-cost;
         node-exit = up .node-exit;
-        last = said (r .last m x) last (λ z. omega arith);
-        owned = said (t .owner u) (sym own ∙ eo) (λ z. omega arith);
+        last = present-word (r .last m x) last (λ z. omega arith);
+        owned = present-word (t .owner u) (sym own ∙ eo) (λ z. omega arith);
         free = no-counting s u x ew free;
         reached = up .reached;
         exits = up .exits;
@@ -139,7 +139,7 @@ module _ {t : Tree} (s : Sound t) (m : ℕ) {h : ℕ} (holder : h ≡ word (t .h
 
   module _ (held : h ≡ absent → ⊥) where
     hold : t .holder m ≡ some h
-    hold = said (t .holder m) holder held
+    hold = present-word (t .holder m) holder held
 
     -- what holds a machine is a node, of a machine
     pub above-node : h < nodes
@@ -191,7 +191,7 @@ module _ {t : Tree} (s : Sound t) {ws : List ℕ} (m : ℕ) {k : ℕ} (mark : Ma
     pub machine-filled : (b : Bool) → k ≡ 0 → (f ≡ absent → ⊥) → Decides b (ExitsFit t (rowsOf ws) m) → Decides b (MachineFits t ws m)
     machine-filled b z used =
         let full = is-filled mark (λ one. omega arith) in
-        let st = said (t .start m) start used in
+        let st = present-word (t .start m) start used in
         decides-same b
         (λ exits.
         record {
@@ -216,7 +216,7 @@ module _ {t : Tree} (s : Sound t) {ws : List ℕ} (m : ℕ) {k : ℕ} (mark : Ma
           → Decides b (MachineFits t ws m)
       machine-stale b used above =
           let is = is-stale mark one in
-          let st = said (t .start m) start used in
+          let st = present-word (t .start m) start used in
           decides-same b
           (λ empty.
           record {

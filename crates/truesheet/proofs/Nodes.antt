@@ -13,12 +13,12 @@ use Rattle.definitions.specs.Book.{word, transitionWord}
 use Rattle.definitions.specs.Sheet.{Rows, costWord, costOf, rowsOf}
 use Rattle.definitions.specs.Truth.{nodeExit, move, BlankNode, Named}
 use Rattle.definitions.proofs.Options.{none-some, some-same, true-false}
-use Rattle.definitions.proofs.Words.{owner-range, target-range, no-owner, some-transition}
+use Rattle.definitions.proofs.Words.{present-word, owner-range, target-range, no-owner, some-transition}
 use Rattle.definitions.proofs.Local.{move-by, move-parts}
 use Rattle.sheet.specs.Fields.{Mark}
 use Rattle.wellformed.specs.Decides.{Decides}
 use Rattle.wellformed.proofs.Decide.{decides-same, decides-equal}
-use Rattle.wellformed.proofs.Reading.{said-is, unsaid-is, said, unsaid}
+use Rattle.wellformed.proofs.Reading.{said-is, unsaid-is, unsaid}
 use Rattle.truesheet.specs.declared.OwnExit.{OwnExit}
 use Rattle.truesheet.specs.declared.OwnExit.the-variants.{Costs, Never}
 use Rattle.truesheet.specs.Meaning.{Exits}
@@ -140,10 +140,10 @@ module _ {t : Tree} (s : Sound t) (r : Rows) (m n c : ℕ) {u x : ℕ} (before :
               command = x;
               node-cost = adds .node-cost;
               step-cost = adds .node-exit + w % costs;
-              before = said (r .before n) before (λ z. omega arith);
-              by = said (r .by n) by (λ z. omega arith);
+              before = present-word (r .before n) before (λ z. omega arith);
+              by = present-word (r .by n) by (λ z. omega arith);
               command-range = range;
-              owned = said (t .owner u) (sym own ∙ eo) (λ z. omega arith);
+              owned = present-word (t .owner u) (sym own ∙ eo) (λ z. omega arith);
               reached = adds .reached;
               moves =
                   subst (λ (v : ℕ). move t r u x ≡ some (record { node = v; cost = adds .node-exit + w % costs })) to
@@ -229,7 +229,7 @@ module _ {t : Tree} (s : Sound t) {r : Rows} (read : ReadRows r) (m n c x : ℕ)
 module _ (t : Tree) {r : Rows} (read : ReadRows r) (m n : ℕ) {f : ℕ} (start : f ≡ word (t .start m)) (small : n < nodes) where
   module _ (here : f ≡ n) where
     first : t .start m ≡ some n
-    first = said (t .start m) (sym here ∙ start) (λ z. omega arith)
+    first = present-word (t .start m) (sym here ∙ start) (λ z. omega arith)
 
     -- the start
     pub filled-start-other : (StartFits r n → ⊥) → FilledFits t r m n → ⊥
@@ -298,7 +298,7 @@ module _ {t : Tree} (s : Sound t) (n : ℕ) {m : ℕ} (owner : m ≡ word (t .ow
 
   module _ (used : m ≡ absent → ⊥) where
     own : t .owner n ≡ some m
-    own = said (t .owner n) owner used
+    own = present-word (t .owner n) owner used
 
     -- belongs to a machine
     pub owner-machine : m < machines

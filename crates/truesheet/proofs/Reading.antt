@@ -12,8 +12,9 @@ use Rattle.definitions.specs.Book.{number, under}
 use Rattle.definitions.specs.Sheet.{Rows, costWord, costOf, machineRowWord, nodeRowWord, rowsOf}
 use Rattle.definitions.proofs.Options.{none-some, some-same, true-false}
 use Rattle.definitions.proofs.Lists.{no-value}
+use Rattle.definitions.proofs.Words.{under-some}
 use Rattle.wellformed.proofs.Fits.{Within}
-use Rattle.wellformed.proofs.Reading.{under-limit, told, number-read}
+use Rattle.wellformed.proofs.Reading.{told, number-read}
 
 -- a cost that is said of number i, if any, is said under the limit, and never by the word for blank
 abbrev pub CostWithin : ℕ → ℕ → Option ℕ → Type 0
@@ -32,7 +33,7 @@ pub record ReadRows (r : Rows) : Type 0 where
 cost-read : (limit i w : ℕ) → CostWithin limit i (under limit i (costOf w))
 unfolding costOf
 cost-read limit i w c e =
-    let (l, f) = under-limit limit i (costOf w) e in
+    let (l, f) = under-some limit i (costOf w) e in
     let (same, other) = told w blank w f in
     (l, λ z. other (same ∙ z))
 
@@ -52,11 +53,11 @@ rowsOf-read ws =
       stale = λ m e. mark-read machines m (eqb (machineRowWord ws m 0) 1) e;
       exit =
           λ m x c e.
-          let (hm, f) = under-limit machines m (under commands x (costOf (machineRowWord ws m (1 + x)))) e in
+          let (hm, f) = under-some machines m (under commands x (costOf (machineRowWord ws m (1 + x)))) e in
           (hm, cost-read commands x (machineRowWord ws m (1 + x)) c f .1);
       last =
           λ m x n e.
-          let (hm, f) = under-limit machines m (under commands x (number (machineRowWord ws m (1 + commands + x)))) e in
+          let (hm, f) = under-some machines m (under commands x (number (machineRowWord ws m (1 + commands + x)))) e in
           (hm, number-read commands x (machineRowWord ws m (1 + commands + x)) f .1);
       cost = λ n. cost-read nodes n (nodeRowWord ws n 0);
       before = λ n k e. number-read nodes n (nodeRowWord ws n 1) e;

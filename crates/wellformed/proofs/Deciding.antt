@@ -8,12 +8,13 @@ use lib.Dec.{eqb}
 use Rattle.definitions.specs.Limits.{machines, nodes, levels, costs, absent, blank}
 use Rattle.definitions.specs.Tree.{Tree}
 use Rattle.definitions.specs.Book.{word, transitionWord}
+use Rattle.definitions.proofs.Words.{present-word}
 use Rattle.wellformed.specs.Decides.{Decides}
 use Rattle.wellformed.specs.Fits.{UsedMachine, UsedNode, Climbs, RootFits, StartFits, HolderFits}
 use Rattle.wellformed.specs.Fits.{OwnerFits, BelowFits, TransitionFits}
 use Rattle.wellformed.proofs.Decide.{decides-same, decides-if, decides-equal, decides-other}
 use Rattle.wellformed.proofs.Fits.{Read}
-use Rattle.wellformed.proofs.Reading.{said-is, unsaid-is, said, unsaid, said-all, unsaid-all, transition-said, transition-target}
+use Rattle.wellformed.proofs.Reading.{said-is, unsaid-is, unsaid, said-all, unsaid-all, transition-said, transition-target}
 
 module _ {t : Tree} (read : Read t) where
   -- whether a machine is in use
@@ -21,7 +22,7 @@ module _ {t : Tree} (read : Read t) where
   machine-unused m es z (f, e) = unsaid-all (read .start m) es z f e
 
   pub machine-used : (m : ℕ) {s : ℕ} → s ≡ word (t .start m) → (s ≡ absent → ⊥) → UsedMachine t m
-  machine-used m {s} es other = (s, said (t .start m) es other)
+  machine-used m {s} es other = (s, present-word (t .start m) es other)
 
   -- the root
   pub root-unused : {r s : ℕ} → r ≡ t .root → s ≡ word (t .start r) → s ≡ absent → RootFits t → ⊥
@@ -37,26 +38,26 @@ module _ {t : Tree} (read : Read t) where
   -- the start node of a machine
   pub start-other : (m : ℕ) {s o : ℕ} → s ≡ word (t .start m) → (s ≡ absent → ⊥) → o ≡ word (t .owner s) → (o ≡ m → ⊥)
       → StartFits t m → ⊥
-  start-other m {s} es other eo wrong fits = wrong (said-is (t .owner s) eo (fits s (said (t .start m) es other) .0))
+  start-other m {s} es other eo wrong fits = wrong (said-is (t .owner s) eo (fits s (present-word (t .start m) es other) .0))
 
   pub start-decides : (m : ℕ) {s o : ℕ} (b : Bool) → m < machines → s ≡ word (t .start m) → (s ≡ absent → ⊥)
       → o ≡ word (t .owner s) → o ≡ m → Decides b (Climbs t levels m) → Decides b (StartFits t m)
   start-decides m {s} {o} b small es other eo right =
       decides-same b (λ c. said-all (λ k. (t .owner k ≡ some m) × Climbs t levels m) (t .start m) es (own, c))
-      (λ fits. fits s (said (t .start m) es other) .1)
+      (λ fits. fits s (present-word (t .start m) es other) .1)
     where
       own : t .owner s ≡ some m
-      own = said (t .owner s) (sym right ∙ eo) (λ z. omega arith)
+      own = present-word (t .owner s) (sym right ∙ eo) (λ z. omega arith)
 
   -- the node that holds a machine
   pub holder-other : (m : ℕ) {h b : ℕ} → h ≡ word (t .holder m) → (h ≡ absent → ⊥) → b ≡ word (t .below h) → (b ≡ m → ⊥)
       → HolderFits t m → ⊥
-  holder-other m {h} eh other eb wrong fits = wrong (said-is (t .below h) eb (fits h (said (t .holder m) eh other) .0))
+  holder-other m {h} eh other eb wrong fits = wrong (said-is (t .below h) eb (fits h (present-word (t .holder m) eh other) .0))
 
   pub holder-unused : (m : ℕ) {h o : ℕ} → h ≡ word (t .holder m) → (h ≡ absent → ⊥) → o ≡ word (t .owner h) → o ≡ absent
       → HolderFits t m → ⊥
   holder-unused m {h} eh other eo z fits =
-      let (p, e) = fits h (said (t .holder m) eh other) .1 in
+      let (p, e) = fits h (present-word (t .holder m) eh other) .1 in
       unsaid-all (read .owner h) eo z p e
 
   pub holder-decides : (m : ℕ) {h b o s : ℕ} → m < machines → h ≡ word (t .holder m) → (h ≡ absent → ⊥)
@@ -66,23 +67,23 @@ module _ {t : Tree} (read : Read t) where
       decides-other s absent
       (λ here.
       said-all (λ k. (t .below k ≡ some m) × UsedNode t k × UsedMachine t m) (t .holder m) eh
-      (said (t .below h) (sym right ∙ eb) (λ z. omega arith), (o, said (t .owner h) eo owned), machine-used m es here))
-      (λ fits z. machine-unused m es z (fits h (said (t .holder m) eh other) .2))
+      (present-word (t .below h) (sym right ∙ eb) (λ z. omega arith), (o, present-word (t .owner h) eo owned), machine-used m es here))
+      (λ fits z. machine-unused m es z (fits h (present-word (t .holder m) eh other) .2))
 
   -- the machine that a node belongs to
   pub owner-decides : (n : ℕ) {m s : ℕ} → m ≡ word (t .owner n) → (m ≡ absent → ⊥) → s ≡ word (t .start m)
       → Decides (not (eqb s absent)) (OwnerFits t n)
   owner-decides n {m} {s} em other es =
       decides-other s absent (λ here. said-all (UsedMachine t) (t .owner n) em (machine-used m es here))
-      (λ fits z. machine-unused m es z (fits m (said (t .owner n) em other)))
+      (λ fits z. machine-unused m es z (fits m (present-word (t .owner n) em other)))
 
   -- the machine below a node
   pub below-decides : (n : ℕ) {b h : ℕ} → n < nodes → b ≡ word (t .below n) → (b ≡ absent → ⊥) → h ≡ word (t .holder b)
       → Decides (eqb h n) (BelowFits t n)
   below-decides n {b} {h} small eb other eh =
       decides-equal h n
-      (λ right. said-all (λ k. t .holder k ≡ some n) (t .below n) eb (said (t .holder b) (sym right ∙ eh) (λ z. omega arith)))
-      (λ fits. said-is (t .holder b) eh (fits b (said (t .below n) eb other)))
+      (λ right. said-all (λ k. t .holder k ≡ some n) (t .below n) eb (present-word (t .holder b) (sym right ∙ eh) (λ z. omega arith)))
+      (λ fits. said-is (t .holder b) eh (fits b (present-word (t .below n) eb other)))
 
   -- a transition of a node
   module _ (n x : ℕ) {w m : ℕ} (ew : w ≡ transitionWord (t .transition n x)) (em : m ≡ word (t .owner n)) where
@@ -108,8 +109,8 @@ module _ {t : Tree} (read : Read t) where
           decides-equal o m
           (λ right a e.
           let to : v ≡ a .target = there ∙ transition-target read n x a ew e .0 in
-          let at : t .owner v ≡ some m = said (t .owner v) (sym right ∙ eo) owned in
-          (m, said (t .owner n) em owned, rw to at at))
+          let at : t .owner v ≡ some m = present-word (t .owner v) (sym right ∙ eo) owned in
+          (m, present-word (t .owner n) em owned, rw to at at))
           (λ fits.
           let (a, e) = transition-said (t .transition n x) ew other in
           let to : v ≡ a .target = there ∙ transition-target read n x a ew e .0 in

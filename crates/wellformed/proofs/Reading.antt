@@ -5,24 +5,16 @@ use mathlib.Core.Option.{Option, none, some}
 use mathlib.Core.List.{List}
 use Prim.Native.Nat.{ℕ, _+_, _*_, _/_, _%_, _≤_, _<_}
 use native.Mathlib.Omega.{arith}
-use lib.Dec.{eqb, ltb}
-use borrow.Author.Tests.{eqb-false, ltb-true}
+use lib.Dec.{eqb}
+use borrow.Author.Tests.{eqb-false}
 use Rattle.definitions.specs.Basics.{_>>=_}
 use Rattle.definitions.specs.Limits.{machines, nodes, commands, costs, absent, blank}
 use Rattle.definitions.specs.Tree.{Tree, Transition, parent}
 use Rattle.definitions.specs.Book.{word, transitionWord, number, transitionOf, under, machineWord, nodeWord, treeOf}
 use Rattle.definitions.proofs.Options.{bind-some, none-some, some-same}
 use Rattle.definitions.proofs.Lists.{no-value}
+use Rattle.definitions.proofs.Words.{under-some}
 use Rattle.wellformed.proofs.Fits.{Within, Read}
-
--- what is read under a limit is read of a number under the limit
-pub under-limit : {A : Type 0} (limit i : ℕ) (o : Option A) {a : A} → under limit i o ≡ some a → (i < limit) × (o ≡ some a)
-unfolding under
-under-limit {A} limit i o {a} = go (ltb i limit) refl
-  where
-    go : (b : Bool) → ltb i limit ≡ b → cond b o none ≡ some a → (i < limit) × (o ≡ some a)
-    go true e f = (ltb-true i limit e, f)
-    go false e f = absurd (none-some refl f)
 
 -- what is told unless a word is z, is told where the word is not z
 pub told : {A : Type 0} (w z : ℕ) (v : A) {a : A} → cond (eqb w z) none (some v) ≡ some a → (v ≡ a) × (w ≡ z → ⊥)
@@ -36,7 +28,7 @@ told {A} w z v {a} = go (eqb w z) refl
 pub number-read : (limit i w : ℕ) {n : ℕ} → under limit i (number w) ≡ some n → (i < limit) × (n ≡ absent → ⊥)
 unfolding number
 number-read limit i w e =
-    let (l, f) = under-limit limit i (number w) e in
+    let (l, f) = under-some limit i (number w) e in
     let (same, other) = told w absent w f in
     (l, λ z. other (same ∙ z))
 
@@ -60,8 +52,8 @@ treeOf-read ws =
       holder = λ m n e. number-read machines m (machineWord ws m 0) e;
       transition =
           λ n x a e.
-          let (hn, f) = under-limit nodes n (under commands x (transitionOf (nodeWord ws n (2 + x)))) e in
-          let (hx, g) = under-limit commands x (transitionOf (nodeWord ws n (2 + x))) f in
+          let (hn, f) = under-some nodes n (under commands x (transitionOf (nodeWord ws n (2 + x)))) e in
+          let (hx, g) = under-some commands x (transitionOf (nodeWord ws n (2 + x))) f in
           let (cost, other) = transition-read (nodeWord ws n (2 + x)) a g in
           (hn, hx, cost, other);
     }
@@ -78,12 +70,6 @@ said-is (some k) e f = e ∙ some-same refl f
 pub unsaid-is : {v : ℕ} {o : Option ℕ} → v ≡ word o → o ≡ none → v ≡ absent
 unfolding word
 unsaid-is e f = e ∙ ap word f
-
--- a word that is not absent is said
-pub said : {v : ℕ} (o : Option ℕ) → v ≡ word o → (v ≡ absent → ⊥) → o ≡ some v
-unfolding word
-said none e other = absurd (other e)
-said (some n) e other = ap some (sym e)
 
 -- where the word is absent nothing is said
 pub unsaid : {v : ℕ} {limit i : ℕ} {o : Option ℕ} → Within limit i o → v ≡ word o → v ≡ absent → o ≡ none

@@ -27,15 +27,6 @@ loop-less c = search needs
 loop-again : tie.Need-loop-again Inv-loop μ-loop
 loop-again c = search needs
 
-put-at-requires-2 : tie.Need-put-at-requires-2 Inv-loop μ-loop
-put-at-requires-2 c κs = search needs
-
-put-at-requires-3 : tie.Need-put-at-requires-3 Inv-loop μ-loop
-put-at-requires-3 c κs = search needs
-
-put-at-requires-4 : tie.Need-put-at-requires-4 Inv-loop μ-loop
-put-at-requires-4 c κs = search needs
-
 same-length : tie.Need-same-length Inv-loop μ-loop
 same-length c = search needs
 
@@ -53,8 +44,5 @@ fill-long-spec =
     add-i
     loop-less
     loop-again
-    put-at-requires-2
-    put-at-requires-3
-    put-at-requires-4
     same-length
     returns)

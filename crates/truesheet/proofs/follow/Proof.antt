@@ -6,7 +6,8 @@ use native.Mathlib.Omega.{arith}
 use denote.Ref.{now}
 use Rattle.definitions.specs.Limits.{nodes, longestChain}
 use Rattle.definitions.specs.Sheet.{rowsOf}
-use Rattle.wellformed.proofs.Reading.{said, unsaid}
+use Rattle.definitions.proofs.Words.{present-word}
+use Rattle.wellformed.proofs.Reading.{unsaid}
 use Rattle.truesheet.proofs.Reading.{rowsOf-read}
 use Rattle.truesheet.proofs.Chains.{Ahead, ahead-none, ahead-more, follows-counted, follows-here, follows-far}
 use Rattle.truesheet.proofs.follow.Statement.{statement}
@@ -56,7 +57,7 @@ returns-3 : tie.Need-returns-3 Inv-loop μ-loop
 returns-3 c =
     let b = c .before .before in
     let l = b .before .before .before in
-    let next = said (rowsOf (now (l .before .before .args .sheet)) .before (l .loop .v)) (b .before2 .ensures) (c .before .if2 .left) in
+    let next = present-word (rowsOf (now (l .before .before .args .sheet)) .before (l .loop .v)) (b .before2 .ensures) (c .before .if2 .left) in
     follows-far (l .loop .inv .2) next (omega arith) (omega arith)
 
 add-steps : tie.Need-add-steps Inv-loop μ-loop
@@ -70,7 +71,7 @@ loop-again c =
     let b = c .before .before in
     let l = b .before .before .before in
     let s = l .before .before in
-    let next = said (rowsOf (now (s .args .sheet)) .before (l .loop .v)) (b .before2 .ensures) (c .before .if2 .left) in
+    let next = present-word (rowsOf (now (s .args .sheet)) .before (l .loop .v)) (b .before2 .ensures) (c .before .if2 .left) in
     (s .pre .0 .names (l .loop .v) (b .before2 .result) next, omega arith, ahead-more next (l .loop .inv .2))
 
 pub follow-spec : {M : Type 1} → statement M

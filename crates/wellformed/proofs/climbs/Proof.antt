@@ -8,8 +8,9 @@ use denote.Ref.{now}
 use Rattle.definitions.specs.Limits.{levels}
 use Rattle.definitions.specs.Book.{treeOf}
 use Rattle.definitions.specs.Tree.{parent}
+use Rattle.definitions.proofs.Words.{present-word}
 use Rattle.wellformed.specs.Fits.{Climbs}
-use Rattle.wellformed.proofs.Reading.{treeOf-read, said, unsaid, parent-read}
+use Rattle.wellformed.proofs.Reading.{treeOf-read, unsaid, parent-read}
 use Rattle.wellformed.proofs.Climbing.{climbs-here, climbs-last, climbs-stuck, climbs-up}
 use borrow.Author.Needs.{needs}
 use Rattle.wellformed.proofs.climbs.Statement.{statement}
@@ -58,7 +59,7 @@ loop-again : tie.Need-loop-again Inv-loop μ-loop
 loop-again c =
     let t = treeOf (now (c .before .before .before .before .before .before .before .args .book)) in
     let l = c .before .before .before .before .loop in
-    let up = said (parent t (l .at)) (c .before .parent-of .ensures) (c .if2 .left) in
+    let up = present-word (parent t (l .at)) (c .before .parent-of .ensures) (c .if2 .left) in
     let step = climbs-up t (l .left) (l .at) (omega arith) (elsewhere (c .before .before .before)) up in
     (λ way. l .inv .0 (step .0 way), λ way. step .1 (l .inv .1 way))
 
