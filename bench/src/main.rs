@@ -22,6 +22,16 @@ fn books() -> Vec<(&'static str, Books)> {
     vec![("the ladder", Books(vec![Holding::ladder()])), ("random books", of(&wide)), ("chains of eight levels", of(&chain))]
 }
 
+/// One book of each kind again and again, which the processor learns.
+fn again(books: Vec<(&'static str, Books)>, agreement: &mut Agreement) {
+    println!();
+    println!("one book of each kind again and again");
+    for (name, kind) in books {
+        println!("{name}");
+        rows::again(&Books(kind.0.into_iter().take(1).collect()), agreement);
+    }
+}
+
 /// The same work again and again: what the machine adds by itself.
 fn noise(holding: &Holding) {
     let mut times = Times::default();
@@ -68,6 +78,7 @@ fn main() {
     for (_, kind) in &books {
         compare_all(kind.at(0), &mut agreement);
     }
+    again(books, &mut agreement);
     println!();
     println!("Answers compared: {}; both sides agreed on {}.", agreement.compared, agreement.compared - agreement.differed);
     if agreement.differed > 0 {

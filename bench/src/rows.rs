@@ -72,6 +72,12 @@ pub fn all(name: &str, books: &Books, agreement: &mut Agreement) {
     writes(books, agreement);
 }
 
+pub fn again(books: &Books, agreement: &mut Agreement) {
+    plans(books, agreement);
+    edits(books, agreement);
+    steps(books, agreement);
+}
+
 fn plans(books: &Books, agreement: &mut Agreement) {
     let pairs = books.pairs();
     let flats: Vec<Flat> = books.0.iter().map(|holding| Flat::of(&holding.book)).collect();
