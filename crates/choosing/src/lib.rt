@@ -3,9 +3,9 @@ ghost use mathlib.Core.Path.{_≡_};
 ghost use Prim.Native.Nat.{_<_, min};
 ghost use lib.ListN.{length, getD};
 ghost use Rattle.definitions.specs.Limits.{longestList};
+ghost use Rattle.definitions.specs.Tree.{UsedNode};
 ghost use Rattle.definitions.specs.Book.{treeOf, WellFormed};
 ghost use Rattle.definitions.specs.Choose.{usedOf, cheaper, ChoiceSays, ChooseSays};
-ghost use Rattle.stepping.specs.Meaning.{Used};
 ghost use Rattle.choosing.specs.Meaning.{usedIn, chosenBy, choiceOf, numberOf, Numbered};
 use stepping::Stepped;
 
@@ -47,7 +47,7 @@ fn wide(x: u32) -> u64
 
 // The used part of a list from state a up to its first arrival at b.
 pub fn used_part(book: &[u32], a: u32, b: u32, list: &[u8]) -> Part
-    requires { ⌜ WellFormed (now book) × Used (treeOf (now book)) a ⌝ }
+    requires { ⌜ WellFormed (now book) × UsedNode (treeOf (now book)) a ⌝ }
     ensures { λ r. ⌜ usedIn r ≡ usedOf (treeOf (now (book .entry))) a b (now (list .entry)) ⌝ }
 {
     let end = limit(list.len());

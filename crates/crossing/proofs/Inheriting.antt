@@ -13,7 +13,7 @@ use lib.Seq.{getD-set-same, getD-set-other}
 use borrow.Author.Tests.{eq-eqb, ne-eqb, eqb-true}
 use Rattle.definitions.specs.Basics.{_>>=_}
 use Rattle.definitions.specs.Limits.{machines, nodes, commands, costs, absent, blank}
-use Rattle.definitions.specs.Tree.{Tree, Transition, Sound, over}
+use Rattle.definitions.specs.Tree.{Tree, Transition, UsedNode, Sound, over}
 use Rattle.definitions.specs.Step.{climb}
 use Rattle.definitions.specs.Book.{word, transitionWord, transitionOf, treeOf, WellFormed}
 use Rattle.definitions.proofs.Options.{some-same, equal-or-not}
@@ -22,7 +22,6 @@ use Rattle.definitions.proofs.Commands.{over-top, over-up}
 use Rattle.definitions.proofs.Simple.{over-own}
 use Rattle.plantheory.specs.Search.{openedFor}
 use Rattle.search.specs.Parts.{at}
-use Rattle.stepping.specs.Meaning.{Used}
 use Rattle.stepping.proofs.Laws.{top-root, climb-here, climb-ends, climb-up}
 use Rattle.crossing.specs.Parts.{NodeList, landed, finds, inherits, UpRoom, Inherited, OwnerRow, RootRow, Handed, HandedTo, HandedAbove}
 use Rattle.crossing.specs.Parts.{isOpen, OpenedFor, Landings, Prepared}
@@ -121,7 +120,7 @@ module _ {t : Tree} {lands : List ℕ} {m : ℕ} where
 
 -- ---- from the root down
 
-module _ (book : List ℕ) (w : WellFormed book) (lands : List ℕ) (n : ℕ) (used : Used (treeOf book) n) {o h : ℕ}
+module _ (book : List ℕ) (w : WellFormed book) (lands : List ℕ) (n : ℕ) (used : UsedNode (treeOf book) n) {o h : ℕ}
     (owner : o ≡ word (treeOf book .owner n)) (holder : h ≡ word (treeOf book .holder o)) where
   -- no node holds the machine: it is the root
   pub handed-root : h ≡ absent → {up : List ℕ} → RootRow (treeOf book) lands up → HandedAbove (treeOf book) lands n up up

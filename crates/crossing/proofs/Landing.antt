@@ -14,7 +14,7 @@ use lib.Seq.{getD-set-same, getD-set-other}
 use borrow.Author.Tests.{eq-eqb, ne-eqb, eqb-true}
 use Rattle.definitions.specs.Basics.{_>>=_, option}
 use Rattle.definitions.specs.Limits.{nodes, levels, absent}
-use Rattle.definitions.specs.Tree.{Tree, Sound, level, over}
+use Rattle.definitions.specs.Tree.{Tree, UsedNode, Sound, level, over}
 use Rattle.definitions.specs.Book.{word, treeOf, WellFormed}
 use Rattle.definitions.proofs.Options.{bind-some, none-some, some-same, equal-or-not}
 use Rattle.definitions.proofs.Words.{present-word, no-below}
@@ -22,7 +22,6 @@ use Rattle.definitions.proofs.Commands.{over-top, over-up}
 use Rattle.plantheory.specs.Search.{openedFor, landF, land}
 use Rattle.plantheory.proofs.Landing.{land-there}
 use Rattle.search.specs.Parts.{at}
-use Rattle.stepping.specs.Meaning.{Used}
 use Rattle.stepping.proofs.Laws.{used-range, down-told}
 use Rattle.crossing.specs.Parts.{isOpen, OpenedFor, Itself, LandsAt, LandedAbove, Landings}
 use Rattle.crossing.proofs.Upward.{own, top, held, used-holder}
@@ -77,7 +76,7 @@ module _ (t : Tree) (opened : ℕ → Bool) where
 
 -- ---- the same, from what the words say
 
-module _ (book : List ℕ) (w : WellFormed book) (words : List ℕ) (v : ℕ) (used : Used (treeOf book) v) {b : ℕ}
+module _ (book : List ℕ) (w : WellFormed book) (words : List ℕ) (v : ℕ) (used : UsedNode (treeOf book) v) {b : ℕ}
     (below : b ≡ word (treeOf book .below v)) where
   pub lands-plain : b ≡ absent → land (treeOf book) (isOpen words) v ≡ some v
   lands-plain free = land-plain (treeOf book) (isOpen words) v (no-below (treeOf book) (w .sound) v below free)
@@ -92,7 +91,7 @@ module _ (book : List ℕ) (w : WellFormed book) (words : List ℕ) (v : ℕ) (u
 
     -- node f, where v is entered next, lands where v does
     pub record Lands-on (f : ℕ) : Type 0 where
-      pub used-start : Used (treeOf book) f
+      pub used-start : UsedNode (treeOf book) f
       pub same : land (treeOf book) (isOpen words) v ≡ land (treeOf book) (isOpen words) f
       pub lower : levels - level (treeOf book) f < levels - level (treeOf book) v
 
@@ -133,12 +132,12 @@ module _ (t : Tree) (opened : ℕ → Bool) (lands : List ℕ) (room : length la
 -- the walk from s has come to node n: of the nodes that hold a machine above s, those that hold none above n have where they land
 pub record LandingWalk (t : Tree) (opened : ℕ → Bool) (s n : ℕ) (old new : List ℕ) : Type 0 where
   pub room : length new ≡ nodes
-  pub used : Used t n
+  pub used : UsedNode t n
   pub told : (v b : ℕ) → t .below v ≡ some b → over t b s ≡ true → (over t b n ≡ true) ⊎ LandsAt t opened new v
   pub kept : (v : ℕ) → LandsAt t opened old v → LandsAt t opened new v
 
 -- at first
-pub landing-starts : (t : Tree) (opened : ℕ → Bool) {s : ℕ} {lands : List ℕ} → length lands ≡ nodes → Used t s → LandingWalk t opened s s lands lands
+pub landing-starts : (t : Tree) (opened : ℕ → Bool) {s : ℕ} {lands : List ℕ} → length lands ≡ nodes → UsedNode t s → LandingWalk t opened s s lands lands
 landing-starts t opened room used = record { room = room; used = used; told = λ v b bel on. inl on; kept = λ v right. right }
 
 module _ (book : List ℕ) (w : WellFormed book) {opened : ℕ → Bool} {s n : ℕ} {old new : List ℕ}

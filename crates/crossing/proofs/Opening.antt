@@ -11,13 +11,12 @@ use lib.ListN.{length, getD, set, replicate, length-set}
 use lib.Seq.{getD-set-same, getD-set-other}
 use borrow.Author.Tests.{eq-eqb, ne-eqb}
 use Rattle.definitions.specs.Limits.{machines, nodes, absent}
-use Rattle.definitions.specs.Tree.{Tree, over}
+use Rattle.definitions.specs.Tree.{Tree, UsedNode, over}
 use Rattle.definitions.specs.Book.{word, treeOf, WellFormed}
 use Rattle.definitions.proofs.Options.{equal-or-not}
 use Rattle.definitions.proofs.Words.{present-word, no-owner, owner-range}
 use Rattle.definitions.proofs.Commands.{over-top, over-up}
 use Rattle.plantheory.specs.Search.{openedFor}
-use Rattle.stepping.specs.Meaning.{Used}
 use Rattle.stepping.proofs.Laws.{used-range}
 use Rattle.crossing.specs.Parts.{isOpen, Opens, OpenedFor, inOpened}
 use Rattle.crossing.proofs.Upward.{own, top, held, used-holder}
@@ -46,11 +45,11 @@ either false b e = inr e
 -- the walk has come from node s to node n: what is opened, with the machines over n, is what was opened, with the machines over s
 pub record Walking (t : Tree) (old new : List ℕ) (s n : ℕ) : Type 0 where
   pub room : length new ≡ machines
-  pub used : Used t n
+  pub used : UsedNode t n
   pub rest : (m : ℕ) → (over t m n || isOpen new m) ≡ (over t m s || isOpen old m)
 
 -- at first
-pub walk-starts : (t : Tree) (words : List ℕ) (s : ℕ) → length words ≡ machines → Used t s → Walking t words words s s
+pub walk-starts : (t : Tree) (words : List ℕ) (s : ℕ) → length words ≡ machines → UsedNode t s → Walking t words words s s
 walk-starts t words s room used = record { room = room; used = used; rest = λ m. refl }
 
 module _ (book : List ℕ) (w : WellFormed book) {old new : List ℕ} {s n : ℕ} (walk : Walking (treeOf book) old new s n) where

@@ -5,14 +5,13 @@ use mathlib.Core.List.{List}
 use Prim.Native.Nat.{ℕ, _<_}
 use native.Mathlib.Omega.{arith}
 use Rattle.definitions.specs.Limits.{absent}
-use Rattle.definitions.specs.Tree.{level}
+use Rattle.definitions.specs.Tree.{UsedNode, level}
 use Rattle.definitions.specs.Book.{word, treeOf, WellFormed}
 use Rattle.definitions.proofs.Path.{level-on}
 use Rattle.definitions.proofs.Words.{present-word, no-holder}
-use Rattle.stepping.specs.Meaning.{Used}
 use Rattle.stepping.proofs.Laws.{owner-told}
 
-module _ (book : List ℕ) (w : WellFormed book) (n : ℕ) (used : Used (treeOf book) n) {o : ℕ} (owner : o ≡ word (treeOf book .owner n)) where
+module _ (book : List ℕ) (w : WellFormed book) (n : ℕ) (used : UsedNode (treeOf book) n) {o : ℕ} (owner : o ≡ word (treeOf book .owner n)) where
   pub own : treeOf book .owner n ≡ some o
   own = owner-told book w n used owner .0
 
@@ -26,7 +25,7 @@ module _ (book : List ℕ) (w : WellFormed book) (n : ℕ) (used : Used (treeOf 
       pub held : treeOf book .holder o ≡ some h
       held = present-word (treeOf book .holder o) holder there
 
-      pub used-holder : Used (treeOf book) h
+      pub used-holder : UsedNode (treeOf book) h
       used-holder = w .sound .holder-used o h held
 
       pub higher : level (treeOf book) h < level (treeOf book) n

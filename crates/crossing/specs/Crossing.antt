@@ -6,22 +6,21 @@ use mathlib.Core.List.{List}
 use Prim.Native.Nat.{ℕ}
 use lib.ListN.{length}
 use Rattle.definitions.specs.Limits.{nodes}
-use Rattle.definitions.specs.Tree.{Tree}
+use Rattle.definitions.specs.Tree.{Tree, UsedNode}
 use Rattle.definitions.specs.Book.{treeOf, WellFormed}
 use Rattle.definitions.specs.Sheet.{Rows, rowsOf}
 use Rattle.definitions.specs.Truth.{TrueSheet}
 use Rattle.plantheory.specs.Search.{openedFor, planMove, PlanSearched}
 use Rattle.search.specs.Search.{distanceOf, nameOf}
-use Rattle.stepping.specs.Meaning.{Used}
 
 -- a well-formed book, its true sheet with no machine stale, a state to search from and a node in use to search for
 pub record Crossable (book sheet : List ℕ) (a b : ℕ) : Type 0 where
   pub well-formed : WellFormed book
   pub true-sheet : TrueSheet (treeOf book) sheet
   pub fresh : (m : ℕ) → rowsOf sheet .stale m ≡ false
-  pub from-used : Used (treeOf book) a
+  pub from-used : UsedNode (treeOf book) a
   pub from-plain : treeOf book .below a ≡ none
-  pub to-used : Used (treeOf book) b
+  pub to-used : UsedNode (treeOf book) b
 
 -- the lists for what is found have a word for every node
 pub record CrossRoom (dist before by : List ℕ) : Type 0 where

@@ -7,12 +7,12 @@ ghost use Prim.Native.Nat.{ℕ, _<_};
 ghost use lib.Dec.{eqb};
 ghost use lib.ListN.{length};
 ghost use Rattle.definitions.specs.Limits.{machines, nodes, commands, blank};
+ghost use Rattle.definitions.specs.Tree.{UsedNode};
 ghost use Rattle.definitions.specs.Book.{treeOf, transitionOf, WellFormed};
 ghost use Rattle.definitions.specs.Sheet.{rowsOf};
 ghost use Rattle.plantheory.specs.Search.{openedFor, land};
 ghost use Rattle.truesheet.specs.Meaning.{exitOf, exitLimit, Exits};
 ghost use Rattle.truesheet.specs.Fits.{Holding};
-ghost use Rattle.stepping.specs.Meaning.{Used};
 ghost use Rattle.crossing.specs.Crossing.{Crossable, CrossRoom, Crossed};
 ghost use Rattle.crossing.specs.Parts.{isOpen, Opens, inOpened, OpenedFor, NodeList, Itself, LandedAbove, Landings};
 ghost use Rattle.crossing.specs.Parts.{finds, leaves, landMove, UpRoom, OwnerRow, MachineRow, RootRow, HandedTo, HandedAbove, Prepared};
@@ -34,7 +34,7 @@ fn wide(x: u32) -> u64
 
 // Opens the machine of node s and all above it: their words become 1, the others stay.
 fn open_above(book: &[u32], s: u32, opened: &mut [u32])
-    requires { ⌜ WellFormed (now book) × Used (treeOf (now book)) s × (length (now opened) ≡ machines) ⌝ }
+    requires { ⌜ WellFormed (now book) × UsedNode (treeOf (now book)) s × (length (now opened) ≡ machines) ⌝ }
     ensures { λ _. ⌜ Opens (treeOf (now (book .entry))) s (now (opened .entry)) (now (opened .exit)) ⌝ }
 {
     let mut n = s;
@@ -63,7 +63,7 @@ fn in_opened(book: &[u32], opened: &[u32], n: u32) -> bool
 
 // From node v down through the start nodes of opened machines to the first node that holds no opened machine.
 fn land(book: &[u32], opened: &[u32], v: u32) -> u32
-    requires { ⌜ WellFormed (now book) × (length (now opened) ≡ machines) × Used (treeOf (now book)) v ⌝ }
+    requires { ⌜ WellFormed (now book) × (length (now opened) ≡ machines) × UsedNode (treeOf (now book)) v ⌝ }
     ensures { λ r. ⌜ (land (treeOf (now (book .entry))) (isOpen (now (opened .entry))) v ≡ some r) × (r < nodes) ⌝ }
 {
     let mut w = v;
@@ -93,7 +93,7 @@ fn itself(lands: &mut [u32])
 
 // Writes where the nodes land that hold the machine of node s and those above it.
 fn land_above(book: &[u32], opened: &[u32], s: u32, lands: &mut [u32])
-    requires { ⌜ WellFormed (now book) × (length (now opened) ≡ machines) × Used (treeOf (now book)) s × (length (now lands) ≡ nodes) ⌝ }
+    requires { ⌜ WellFormed (now book) × (length (now opened) ≡ machines) × UsedNode (treeOf (now book)) s × (length (now lands) ≡ nodes) ⌝ }
     ensures { λ _. ⌜ LandedAbove (treeOf (now (book .entry))) (isOpen (now (opened .entry))) s (now (lands .entry)) (now (lands .exit)) ⌝ }
 {
     let mut n = s;
@@ -109,7 +109,7 @@ fn land_above(book: &[u32], opened: &[u32], s: u32, lands: &mut [u32])
 
 // Writes for every node where it lands, the machines above a and b being opened: only the nodes that hold these do not land where they are.
 fn landings(book: &[u32], opened: &[u32], a: u32, b: u32, lands: &mut [u32])
-    requires { ⌜ WellFormed (now book) × (length (now opened) ≡ machines) × Used (treeOf (now book)) a × Used (treeOf (now book)) b
+    requires { ⌜ WellFormed (now book) × (length (now opened) ≡ machines) × UsedNode (treeOf (now book)) a × UsedNode (treeOf (now book)) b
         × OpenedFor (treeOf (now book)) a b (now opened) × (length (now lands) ≡ nodes) ⌝ }
     ensures { λ _. ⌜ Landings (treeOf (now (book .entry))) (isOpen (now (opened .entry))) (now (lands .exit)) ⌝ }
 {
@@ -155,7 +155,7 @@ fn inherit(book: &[u32], lands: &[u32], m: u32, h: u32, up: &mut [u32])
 
 // Writes what the machine of node n and all above it inherit, from the root down. The root's row is written already.
 fn inherit_above(book: &[u32], lands: &[u32], n: u32, up: &mut [u32])
-    requires { ⌜ WellFormed (now book) × NodeList (now lands) × UpRoom (now up) × Used (treeOf (now book)) n
+    requires { ⌜ WellFormed (now book) × NodeList (now lands) × UpRoom (now up) × UsedNode (treeOf (now book)) n
         × RootRow (treeOf (now book)) (now lands) (now up) ⌝ }
     ensures { λ _. ⌜ HandedAbove (treeOf (now (book .entry))) (now (lands .entry)) n (now (up .entry)) (now (up .exit)) ⌝ }
 {
@@ -222,7 +222,7 @@ fn row(
     target: &mut [u32],
     price: &mut [u64],
 )
-    requires { ⌜ Holding (now book) (now sheet) × NodeList (now lands) × UpRoom (now up) × Used (treeOf (now book)) n
+    requires { ⌜ Holding (now book) (now sheet) × NodeList (now lands) × UpRoom (now up) × UsedNode (treeOf (now book)) n
         × OwnerRow (treeOf (now book)) (now lands) (now up) n × TableRoom (now target) (now price) ⌝ }
     ensures { λ _. ⌜ RowFilled (landMove (treeOf (now (book .entry))) (rowsOf (now (sheet .entry))) (now (lands .entry)) n) n
         (now (target .entry)) (now (price .entry)) (now (target .exit)) (now (price .exit)) ⌝ }
@@ -283,7 +283,7 @@ fn rows(
 
 // Fills the tables, which have no move yet, with the moves of the nodes in the machines above a and b.
 fn tables(book: &[u32], sheet: &[u32], a: u32, b: u32, target: &mut [u32], price: &mut [u64])
-    requires { ⌜ Holding (now book) (now sheet) × Used (treeOf (now book)) a × Used (treeOf (now book)) b
+    requires { ⌜ Holding (now book) (now sheet) × UsedNode (treeOf (now book)) a × UsedNode (treeOf (now book)) b
         × TableRoom (now target) (now price) × ((n : ℕ) → n < nodes → BlankRow n (now target) (now price)) ⌝ }
     ensures { λ _. ⌜ Tabled (openMove (treeOf (now (book .entry))) (rowsOf (now (sheet .entry))) (openedFor (treeOf (now (book .entry))) a b))
         (now (target .exit)) (now (price .exit)) ⌝ }

@@ -36,6 +36,13 @@ usedMachine t m = isSome (t .start m)
 abbrev pub usedNode : Tree → ℕ → Bool
 usedNode t n = isSome (t .owner n)
 
+-- the same as statements
+abbrev pub UsedMachine : Tree → ℕ → Type 0
+UsedMachine t m = (s : ℕ) × (t .start m ≡ some s)
+
+abbrev pub UsedNode : Tree → ℕ → Type 0
+UsedNode t n = (m : ℕ) × (t .owner n ≡ some m)
+
 -- whether a node is a state (document 01: a plain node)
 abbrev pub isState : Tree → ℕ → Bool
 isState t n = usedNode t n && not (isSome (t .below n))
@@ -75,19 +82,19 @@ over t p n = anyOf (λ d. isAt (t .owner d) p) (path t n)
 -- document 01's conditions on a tree: numbers in range, unused records empty, and "well formed"
 pub record Sound (t : Tree) : Type 0 where
   -- the root is in use and no node holds it
-  pub root-used : (s : ℕ) × (t .start (t .root) ≡ some s)
+  pub root-used : UsedMachine t (t .root)
   pub root-free : t .holder (t .root) ≡ none
   -- numbers in use are in range
   pub machine-range : (m s : ℕ) → t .start m ≡ some s → m < machines
   pub node-range : (n m : ℕ) → t .owner n ≡ some m → n < nodes
   -- a node belongs to a machine in use, and a start node to its machine
-  pub owner-used : (n m : ℕ) → t .owner n ≡ some m → (s : ℕ) × (t .start m ≡ some s)
+  pub owner-used : (n m : ℕ) → t .owner n ≡ some m → UsedMachine t m
   pub start-owned : (m s : ℕ) → t .start m ≡ some s → t .owner s ≡ some m
   -- holder and held name each other and are in use: an unused node holds nothing, an unused machine has no holder
   pub below-held : (n m : ℕ) → t .below n ≡ some m → t .holder m ≡ some n
   pub held-below : (m n : ℕ) → t .holder m ≡ some n → t .below n ≡ some m
-  pub holder-used : (m n : ℕ) → t .holder m ≡ some n → (p : ℕ) × (t .owner n ≡ some p)
-  pub held-used : (m n : ℕ) → t .holder m ≡ some n → (s : ℕ) × (t .start m ≡ some s)
+  pub holder-used : (m n : ℕ) → t .holder m ≡ some n → UsedNode t n
+  pub held-used : (m n : ℕ) → t .holder m ≡ some n → UsedMachine t m
   -- transitions are for commands, cost less than 65,536, and stay in the machine of their node; an unused node has none
   pub transition-range : (n x : ℕ) (a : Transition) → t .transition n x ≡ some a → (x < commands) × (a .cost < costs)
   pub transition-owned : (n x : ℕ) (a : Transition) → t .transition n x ≡ some a

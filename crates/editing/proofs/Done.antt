@@ -7,7 +7,7 @@ use Prim.Native.Nat.{ℕ, _+_, _*_, _<_}
 use native.Mathlib.Omega.{arith}
 use borrow.Author.Tests.{ne-eqb}
 use Rattle.definitions.specs.Limits.{machines, nodes, costs, absent, blank}
-use Rattle.definitions.specs.Tree.{Tree, Transition}
+use Rattle.definitions.specs.Tree.{Tree, Transition, UsedNode}
 use Rattle.definitions.specs.Book.{word, transitionWord, number, transitionOf, treeOf}
 use Rattle.definitions.specs.Sheet.{rowsOf}
 use Rattle.definitions.specs.Stream.{Edit}
@@ -19,7 +19,6 @@ use Rattle.book.specs.Fields.{Holds, withRoot, withOwner, withBelow, withStartO
 use Rattle.book.proofs.Stores.{holds-then}
 use Rattle.sheet.specs.Fields.{Leaves, withMark}
 use Rattle.sheet.proofs.Stores.{leaves-then}
-use Rattle.stepping.specs.Meaning.{Used}
 use Rattle.stepping.proofs.Laws.{owner-told}
 use Rattle.marking.specs.Stale.{LeavesStaleOver}
 use Rattle.marking.proofs.Blanks.{leaves-same}
@@ -46,7 +45,7 @@ module _ {b s : List ℕ} {m n : ℕ} (ready : Ready b s (Edit.add m n)) where
     add-start = let (g, st) = add-taken .machine-used in st ∙ ap some (sym (told ∙ ap word st))
 
     -- the machine's start node is in use
-    pub add-used : Used (treeOf b) f
+    pub add-used : UsedNode (treeOf b) f
     add-used = (m, ready .formed .sound .start-owned m f add-start)
 
     -- what the marks and the stores leave is what the edit leaves
@@ -96,7 +95,7 @@ module _ {b s : List ℕ} {n x v c : ℕ} (ready : Ready b s (Edit.arrow n x v c
   arrow-taken = taken-arrow (treeOf b) n x v c (ready .taken)
 
   -- the node is in use
-  pub arrow-used : Used (treeOf b) n
+  pub arrow-used : UsedNode (treeOf b) n
   arrow-used = let (p, own, same) = arrow-taken .one-machine in (p, own)
 
   -- the word of the transition says its target and its cost

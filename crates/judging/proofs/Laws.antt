@@ -10,14 +10,13 @@ use lib.Dec.{eqb}
 use borrow.Author.Tests.{eq-eqb, ne-eqb, not-false}
 use Rattle.definitions.specs.Limits.{machines, nodes, commands, levels, absent}
 use Rattle.definitions.specs.Basics.{option, isSome, anyBelow}
-use Rattle.definitions.specs.Tree.{Tree, Sound, usedMachine, usedNode, level}
+use Rattle.definitions.specs.Tree.{Tree, UsedNode, Sound, usedMachine, usedNode, level}
 use Rattle.definitions.specs.Book.{word, treeOf, WellFormed}
 use Rattle.definitions.specs.Edit.{Test, _when_, firstHolding, badMachine, badNode, badCommand, isStart, apart, lowest}
 use Rattle.definitions.proofs.Options.{decided, true-false, isSome-true}
 use Rattle.definitions.proofs.Path.{same-level}
 use Rattle.definitions.proofs.Words.{present-word, owner-range, start-range, below-range, no-start}
 use Rattle.definitions.proofs.Commands.{neither, in-range, none-below, below-none}
-use Rattle.stepping.specs.Meaning.{Used}
 use Rattle.stepping.proofs.Laws.{owner-told}
 
 -- ---- tests in their order
@@ -72,11 +71,11 @@ arrow-range n x v e fails =
     (in-range a, in-range b, in-range c)
 
 -- a node of which the test says that it is in use
-pub is-used : (t : Tree) (n : ℕ) {r : Bool} → r ≡ usedNode t n → not r ≡ false → Used t n
+pub is-used : (t : Tree) (n : ℕ) {r : Bool} → r ≡ usedNode t n → not r ≡ false → UsedNode t n
 is-used t n {r} e used = isSome-true (t .owner n) (sym e ∙ not-false r used)
 
 -- two nodes of which none is unused
-pub both-used : (t : Tree) (n v : ℕ) {r : Bool} → r ≡ (not (usedNode t n) || not (usedNode t v)) → r ≡ false → Used t n × Used t v
+pub both-used : (t : Tree) (n v : ℕ) {r : Bool} → r ≡ (not (usedNode t n) || not (usedNode t v)) → r ≡ false → UsedNode t n × UsedNode t v
 both-used t n v e fails = let (a, b) = neither (sym e ∙ fails) in (is-used t n refl a, is-used t v refl b)
 
 -- ---- what the words say
@@ -135,13 +134,13 @@ module _ (ws : List ℕ) (w : WellFormed ws) where
     starts : treeOf ws .start m ≡ some f
     starts = present-word (treeOf ws .start m) e used
 
-    pub start-used : Used (treeOf ws) f
+    pub start-used : UsedNode (treeOf ws) f
     start-used = (m, w .sound .start-owned m f starts)
 
     pub start-lowest : {r : Bool} → r ≡ lowest (treeOf ws) f → r ≡ option false (lowest (treeOf ws)) (treeOf ws .start m)
     start-lowest low = rw starts low
 
-  module _ (n : ℕ) (used : Used (treeOf ws) n) where
+  module _ (n : ℕ) (used : UsedNode (treeOf ws) n) where
     -- the start node of a node's machine
     pub start-told : {o f : ℕ} → o ≡ word (treeOf ws .owner n) → f ≡ word (treeOf ws .start o) → eqb f n ≡ isStart (treeOf ws) n
     unfolding word
@@ -151,7 +150,7 @@ module _ (ws : List ℕ) (w : WellFormed ws) where
         rw (own, st) (ap (λ (k : ℕ). eqb k n) (ef ∙ ap word st))
 
     -- the owners of two nodes
-    pub apart-told : (v : ℕ) → Used (treeOf ws) v → {o p : ℕ} → o ≡ word (treeOf ws .owner n) → p ≡ word (treeOf ws .owner v)
+    pub apart-told : (v : ℕ) → UsedNode (treeOf ws) v → {o p : ℕ} → o ≡ word (treeOf ws .owner n) → p ≡ word (treeOf ws .owner v)
         → not (eqb p o) ≡ apart (treeOf ws) n v
     apart-told v used-v eo ep = rw (owner-told ws w n used eo .0, owner-told ws w v used-v ep .0)
 

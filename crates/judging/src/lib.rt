@@ -5,11 +5,10 @@ ghost use mathlib.Core.Bool.{false, not, _||_};
 ghost use Prim.Native.Nat.{ℕ, _<_};
 ghost use Rattle.definitions.specs.Limits.{machines, nodes};
 ghost use Rattle.definitions.specs.Basics.{isSome, option, anyBelow};
-ghost use Rattle.definitions.specs.Tree.{Tree, usedMachine, usedNode};
+ghost use Rattle.definitions.specs.Tree.{Tree, UsedNode, usedMachine, usedNode};
 ghost use Rattle.definitions.specs.Book.{treeOf, WellFormed};
 ghost use Rattle.definitions.specs.Stream.{edit, begin, add, refine, remove, arrow, clear, start, crown};
 ghost use Rattle.definitions.specs.Edit.{badMachine, badNode, badCommand, isStart, apart, lowest, refusal};
-ghost use Rattle.stepping.specs.Meaning.{Used};
 ghost use Rattle.reading.specs.Meaning.{commandOf};
 use reading::Command;
 
@@ -107,7 +106,7 @@ fn refined(book: &[u32], n: u32) -> bool
 
 // Whether node n is the start node of its machine.
 fn is_start(book: &[u32], n: u32) -> bool
-    requires { ⌜ WellFormed (now book) × Used (treeOf (now book)) n ⌝ }
+    requires { ⌜ WellFormed (now book) × UsedNode (treeOf (now book)) n ⌝ }
     ensures { λ r. ⌜ r ≡ isStart (treeOf (now (book .entry))) n ⌝ }
 {
     book::start(book, book::owner(book, n)) == n
@@ -115,7 +114,7 @@ fn is_start(book: &[u32], n: u32) -> bool
 
 // Whether two nodes belong to different machines.
 fn apart(book: &[u32], n: u32, v: u32) -> bool
-    requires { ⌜ WellFormed (now book) × Used (treeOf (now book)) n × Used (treeOf (now book)) v ⌝ }
+    requires { ⌜ WellFormed (now book) × UsedNode (treeOf (now book)) n × UsedNode (treeOf (now book)) v ⌝ }
     ensures { λ r. ⌜ r ≡ apart (treeOf (now (book .entry))) n v ⌝ }
 {
     book::owner(book, v) != book::owner(book, n)
@@ -123,7 +122,7 @@ fn apart(book: &[u32], n: u32, v: u32) -> bool
 
 // Whether node n stands at the lowest level.
 fn lowest(book: &[u32], n: u32) -> bool
-    requires { ⌜ WellFormed (now book) × Used (treeOf (now book)) n ⌝ }
+    requires { ⌜ WellFormed (now book) × UsedNode (treeOf (now book)) n ⌝ }
     ensures { λ r. ⌜ r ≡ lowest (treeOf (now (book .entry))) n ⌝ }
 {
     stepping::level(book, n) == LEVELS

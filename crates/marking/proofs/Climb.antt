@@ -13,7 +13,7 @@ use native.Mathlib.Decide.{decLt}
 use borrow.Author.Tests.{eq-eqb, ne-eqb}
 use Rattle.definitions.specs.Basics.{option, unless, isSome, put, iterate}
 use Rattle.definitions.specs.Limits.{machines, commands, sheetLength, absent}
-use Rattle.definitions.specs.Tree.{Tree, Sound, usedMachine, parent, level, over}
+use Rattle.definitions.specs.Tree.{Tree, UsedNode, Sound, usedMachine, parent, level, over}
 use Rattle.definitions.specs.Book.{word, number, treeOf, WellFormed}
 use Rattle.definitions.specs.Sheet.{Rows, costOf, machineRowWord, rowsOf}
 use Rattle.definitions.specs.Truth.{BlankMachine, BlankNode, BlankRule, TrueSheet}
@@ -26,7 +26,6 @@ use Rattle.book.proofs.Places.{grid-past}
 use Rattle.rows.proofs.Edits.{over-own}
 use Rattle.sheet.specs.Fields.{Mark, Leaves, withMark, withBlankMachine}
 use Rattle.sheet.proofs.Stores.{leaves-then}
-use Rattle.stepping.specs.Meaning.{Used}
 use Rattle.stepping.proofs.Laws.{owner-told}
 use Rattle.marking.specs.Chosen.{chosen}
 use Rattle.marking.specs.Stale.{withMarked, withBlankNodes, ownedBy, freshOver, LeavesBlank, MarkedOver, LeavesStaleOver}
@@ -299,7 +298,7 @@ module _ {t : Tree} (s : Sound t) {before after : List ℕ} (sheet : TrueSheet t
 -- ---- the same, from what the words say
 
 module _ (book : List ℕ) (w : WellFormed book) {before : List ℕ} (sheet : TrueSheet (treeOf book) before) (k : ℕ)
-    (used : Used (treeOf book) k) {o : ℕ} (owner : o ≡ word (treeOf book .owner k)) where
+    (used : UsedNode (treeOf book) k) {o : ℕ} (owner : o ≡ word (treeOf book .owner k)) where
   -- the machine of the node in hand is in range
   pub machine-range : o < machines
   machine-range = owner-told book w k used owner .1
@@ -321,7 +320,7 @@ module _ (book : List ℕ) (w : WellFormed book) {before : List ℕ} (sheet : Tr
     held : treeOf book .holder o ≡ some h
     held = present-word (treeOf book .holder o) holder present
 
-    pub holder-used : Used (treeOf book) h
+    pub holder-used : UsedNode (treeOf book) h
     holder-used = w .sound .holder-used o h held
 
     pub higher-told : level (treeOf book) h < level (treeOf book) k
@@ -357,7 +356,7 @@ is-stale true false on e = absurd (true-false refl e)
 is-stale false b on e = absurd (true-false on refl)
 
 -- the climb, and then the nodes of the machines that it marked
-pub touched-told : (book : List ℕ) → WellFormed book → (n : ℕ) → Used (treeOf book) n → (list : List ℕ) {before after last : List ℕ}
+pub touched-told : (book : List ℕ) → WellFormed book → (n : ℕ) → UsedNode (treeOf book) n → (list : List ℕ) {before after last : List ℕ}
     → TrueSheet (treeOf book) before → MarkedOver (treeOf book) n before after list
     → LeavesBlank after last (ownedBy (treeOf book) (chosen list)) → LeavesStaleOver (treeOf book) n before last
 touched-told book w n used list {before} sheet marked blanked =

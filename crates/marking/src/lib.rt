@@ -6,11 +6,11 @@ ghost use mathlib.Core.Bool.{true};
 ghost use Prim.Native.Nat.{_<_};
 ghost use lib.ListN.{length};
 ghost use Rattle.definitions.specs.Limits.{machines, nodes, sheetLength};
+ghost use Rattle.definitions.specs.Tree.{UsedNode};
 ghost use Rattle.definitions.specs.Book.{treeOf, WellFormed};
 ghost use Rattle.definitions.specs.Sheet.{rowsOf};
 ghost use Rattle.definitions.specs.Truth.{TrueSheet};
 ghost use Rattle.sheet.specs.Fields.{Leaves, withMark, withBlankMachine};
-ghost use Rattle.stepping.specs.Meaning.{Used};
 ghost use Rattle.marking.specs.Chosen.{chosen, only};
 ghost use Rattle.marking.specs.Stale.{ownedBy, LeavesBlank, MarkedOver, LeavesStaleOver};
 
@@ -26,7 +26,7 @@ fn mark(sheet: &mut [u32], m: u32)
 // Marks the machine of node n and those above it that are not marked yet, and makes their own rows blank. Gives a list with 1 at each of
 // them.
 fn mark_over(book: &[u32], sheet: &mut [u32], n: u32) -> [u32; 64]
-    requires { ⌜ WellFormed (now book) × TrueSheet (treeOf (now book)) (now sheet) × Used (treeOf (now book)) n ⌝ }
+    requires { ⌜ WellFormed (now book) × TrueSheet (treeOf (now book)) (now sheet) × UsedNode (treeOf (now book)) n ⌝ }
     ensures { λ r. ⌜ MarkedOver (treeOf (now (book .entry))) n (now (sheet .entry)) (now (sheet .exit)) r ⌝ }
 {
     let mut list = [0u32; 64];
@@ -75,7 +75,7 @@ fn blank_nodes(book: &[u32], sheet: &mut [u32], list: &[u32; 64])
 
 // Marks and blanks the machine of node n and all above it; every other row stays.
 pub fn touch(book: &[u32], sheet: &mut [u32], n: u32)
-    requires { ⌜ WellFormed (now book) × TrueSheet (treeOf (now book)) (now sheet) × Used (treeOf (now book)) n ⌝ }
+    requires { ⌜ WellFormed (now book) × TrueSheet (treeOf (now book)) (now sheet) × UsedNode (treeOf (now book)) n ⌝ }
     ensures { λ r. ⌜ LeavesStaleOver (treeOf (now (book .entry))) n (now (sheet .entry)) (now (sheet .exit)) ⌝ }
 {
     let m = book::owner(book, n);

@@ -5,14 +5,13 @@ use mathlib.Core.Option.{none}
 use mathlib.Core.List.{List, [], _∷_, _++_}
 use Prim.Native.Nat.{ℕ, _-_, _≤_}
 use lib.ListN.{length, drop}
-use Rattle.definitions.specs.Tree.{Tree, states}
+use Rattle.definitions.specs.Tree.{Tree, UsedNode, states}
 use Rattle.definitions.specs.Costs.{LeastCost}
 use Rattle.definitions.specs.Book.{treeOf, WellFormed}
 use Rattle.definitions.specs.Sheet.{rowsOf}
 use Rattle.definitions.specs.Truth.{TrueSheet}
 use Rattle.definitions.specs.Answer.{Answer, gives, refuses, refuse, InOrder}
 use Rattle.definitions.specs.Calls.{Plan}
-use Rattle.stepping.specs.Meaning.{Used}
 use Rattle.planning.specs.declared.PlanAnswer.{PlanAnswer}
 use Rattle.planning.specs.declared.PlanAnswer.the-variants.{Planned, Refused}
 
@@ -25,9 +24,9 @@ pub record Plannable (book sheet : List ℕ) (a b room : ℕ) : Type 0 where
   pub formed : WellFormed book
   pub true-sheet : TrueSheet (treeOf book) sheet
   pub fresh : (m : ℕ) → rowsOf sheet .stale m ≡ false
-  pub used-a : Used (treeOf book) a
+  pub used-a : UsedNode (treeOf book) a
   pub plain-a : treeOf book .below a ≡ none
-  pub used-b : Used (treeOf book) b
+  pub used-b : UsedNode (treeOf book) b
   pub plain-b : treeOf book .below b ≡ none
   pub enough : states (treeOf book) - 1 ≤ room
 

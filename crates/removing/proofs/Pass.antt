@@ -11,14 +11,13 @@ use lib.ListN.{length}
 use borrow.Author.Tests.{le-ltb, eq-eqb, ne-eqb}
 use Rattle.definitions.specs.Basics.{option, unless, put}
 use Rattle.definitions.specs.Limits.{machines, nodes, commands, sheetLength, absent}
-use Rattle.definitions.specs.Tree.{Tree, Transition, within}
+use Rattle.definitions.specs.Tree.{Tree, Transition, UsedNode, within}
 use Rattle.definitions.specs.Book.{word, number, transitionOf, under, nodeWord, treeOf, WellFormed}
 use Rattle.definitions.specs.Sheet.{Rows, costOf, nodeRowWord, rowsOf}
 use Rattle.definitions.specs.Edit.{heldWithin}
 use Rattle.definitions.proofs.Options.{some-same, equal-or-not}
 use Rattle.definitions.proofs.Words.{same-tree, same-rows, present-word, absent-word, owner-range}
 use Rattle.book.specs.Fields.{Holds, withTransitions}
-use Rattle.stepping.specs.Meaning.{Used}
 use Rattle.stepping.proofs.Laws.{owner-told}
 use Rattle.marking.specs.Chosen.{chosen}
 use Rattle.marking.specs.Stale.{withBlankNodes, ownedBy}
@@ -264,7 +263,7 @@ module _ (b : List ℕ) (w : WellFormed b) (s : List ℕ) (n : ℕ) where
         ap (λ (t : Tree). t .transition i x) (passed .book .tree)
         ∙ at (grown-at (treeOf b .transition) (cut (treeOf b) (within (treeOf b) n) n .transition) i) x
 
-    pub pass-linked : Used (treeOf b) n → {p : ℕ} → p ≡ word (treeOf b .owner n) → Linked (treeOf b₁) p n i
+    pub pass-linked : UsedNode (treeOf b) n → {p : ℕ} → p ≡ word (treeOf b .owner n) → Linked (treeOf b₁) p n i
     pass-linked used {p} told =
         record {
           range = λ m own. owner-range (treeOf b) (w .sound) i m (sym owner-still ∙ own) .1;

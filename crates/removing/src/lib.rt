@@ -5,12 +5,11 @@ ghost use Prim.Native.Nat.{_<_};
 ghost use lib.Dec.{eqb};
 ghost use lib.ListN.{length};
 ghost use Rattle.definitions.specs.Limits.{machines, nodes, commands, bookLength, sheetLength};
-ghost use Rattle.definitions.specs.Tree.{within};
+ghost use Rattle.definitions.specs.Tree.{UsedNode, within};
 ghost use Rattle.definitions.specs.Book.{treeOf, WellFormed};
 ghost use Rattle.definitions.specs.Stream.{Edit};
 ghost use Rattle.definitions.specs.Edit.{heldWithin, withTransition};
 ghost use Rattle.book.specs.Fields.{Holds};
-ghost use Rattle.stepping.specs.Meaning.{Used};
 ghost use Rattle.marking.specs.Chosen.{chosen};
 ghost use Rattle.clearing.specs.Gone.{Sized};
 ghost use Rattle.editing.specs.Edited.{Ready, Edited};
@@ -122,7 +121,7 @@ fn remove_at(book: &mut [u32], sheet: &mut [u32], gone: &[u32; 64], p: u32, n: u
 // Drops node n and the nodes below it, and clears the transitions into n. The list has 1 at each machine that n or a node below it holds. Every node
 // is looked at once; its machine is read before its record is emptied.
 fn remove_nodes(book: &mut [u32], sheet: &mut [u32], gone: &[u32; 64], n: u32)
-    requires { ⌜ WellFormed (now book) × (length (now sheet) ≡ sheetLength) × Used (treeOf (now book)) n × Listed machines (heldWithin (treeOf (now book)) n) (now gone) ⌝ }
+    requires { ⌜ WellFormed (now book) × (length (now sheet) ≡ sheetLength) × UsedNode (treeOf (now book)) n × Listed machines (heldWithin (treeOf (now book)) n) (now gone) ⌝ }
     ensures { λ r. ⌜ NodesRemoved (now (book .entry)) (now (sheet .entry)) (now (book .exit)) (now (sheet .exit)) n ⌝ }
 {
     let p = book::owner(book, n);

@@ -7,12 +7,11 @@ use native.Mathlib.Nat.{zero-add}
 use native.Mathlib.Omega.{arith}
 use lib.ListN.{length}
 use Rattle.definitions.specs.Limits.{machines, nodes, costs, levels, absent, blank}
-use Rattle.definitions.specs.Tree.{Tree, Transition, Sound, level}
+use Rattle.definitions.specs.Tree.{Tree, Transition, UsedNode, Sound, level}
 use Rattle.definitions.specs.Step.{counting, leaving, Climb, found, passed, past, climb, enter, follow, stepIn, step}
 use Rattle.definitions.specs.Book.{word, transitionWord, treeOf, WellFormed}
 use Rattle.definitions.proofs.Path.{Deep, at-root, under, deep, root-holder, path-root, climb-own, climb-top, climb-on, climb-found, enter-plain, enter-down, level-on, level-bound}
 use Rattle.definitions.proofs.Words.{present-word, owner-range, below-range, no-holder, no-below, no-transition, some-transition}
-use Rattle.stepping.specs.Meaning.{Used}
 
 -- a machine in use that nothing holds is the root
 pub top-root : {t : Tree} → Sound t → {m f : ℕ} → t .start m ≡ some f → t .holder m ≡ none → m ≡ t .root
@@ -50,7 +49,7 @@ module _ (t : Tree) (s : Sound t) {n m : ℕ} (x : ℕ) (own : t .owner n ≡ so
 
 -- ---- the same, from what the words say
 
-module _ (ws : List ℕ) (w : WellFormed ws) (n : ℕ) (used : Used (treeOf ws) n) where
+module _ (ws : List ℕ) (w : WellFormed ws) (n : ℕ) (used : UsedNode (treeOf ws) n) where
   -- a node in use is in range, and so is its owner
   pub used-range : n < nodes
   used-range = w .sound .node-range n (used .0) (used .1)
@@ -76,7 +75,7 @@ module _ (ws : List ℕ) (w : WellFormed ws) (n : ℕ) (used : Used (treeOf ws) 
 
   -- no transition, and node h holds the owner
   pub record Climbed-on (x h : ℕ) : Type 0 where
-    pub used-holder : Used (treeOf ws) h
+    pub used-holder : UsedNode (treeOf ws) h
     pub same : climb (treeOf ws) (treeOf ws .root) n x ≡ climb (treeOf ws) (treeOf ws .root) h x
     pub higher : level (treeOf ws) h < level (treeOf ws) n
 
@@ -101,7 +100,7 @@ module _ (ws : List ℕ) (w : WellFormed ws) (n : ℕ) (used : Used (treeOf ws) 
       ap length (path-root (treeOf ws) (owner-told eo .0) (no-holder (treeOf ws) (w .sound) o eh top))
 
   pub level-up : {o h : ℕ} → o ≡ word (treeOf ws .owner n) → h ≡ word (treeOf ws .holder o) → (h ≡ absent → ⊥)
-      → Used (treeOf ws) h × (level (treeOf ws) n ≡ suc (level (treeOf ws) h))
+      → UsedNode (treeOf ws) h × (level (treeOf ws) n ≡ suc (level (treeOf ws) h))
   level-up {o} {h} eo eh held =
       let hold = present-word (treeOf ws .holder o) eh held in
       (w .sound .holder-used o h hold, level-on (w .sound) (owner-told eo .0) hold)
@@ -118,7 +117,7 @@ module _ (ws : List ℕ) (w : WellFormed ws) (n : ℕ) (used : Used (treeOf ws) 
 
   -- its start node is entered where the node is
   pub record Entered-on (f : ℕ) : Type 0 where
-    pub used-start : Used (treeOf ws) f
+    pub used-start : UsedNode (treeOf ws) f
     pub same : enter (treeOf ws) n ≡ enter (treeOf ws) f
     pub lower : levels - level (treeOf ws) f < levels - level (treeOf ws) n
 
@@ -142,7 +141,7 @@ module _ (ws : List ℕ) (w : WellFormed ws) (n : ℕ) (used : Used (treeOf ws) 
 
 module _ (t : Tree) (s : Sound t) (n x : ℕ) where
   -- the target of what is found is in use
-  pub target-used : {u v c : ℕ} → found u v c ≡ climb t (t .root) n x → Used t v
+  pub target-used : {u v c : ℕ} → found u v c ≡ climb t (t .root) n x → UsedNode t v
   target-used e = let at = climb-found s (t .root) n x (sym e) in (at .machine, at .target-owner)
 
   pub step-found : {u v c e : ℕ} → found u v c ≡ climb t (t .root) n x → enter t v ≡ some e → some (record { node = e; cost = c }) ≡ step t n x

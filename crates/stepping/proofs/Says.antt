@@ -6,13 +6,13 @@ use mathlib.Core.List.{List, [], _∷_}
 use Prim.Native.Nat.{ℕ, _<_}
 use lib.ListN.{length}
 use Rattle.definitions.specs.Limits.{nodes, commands, bookLength, absent}
+use Rattle.definitions.specs.Tree.{UsedNode}
 use Rattle.definitions.specs.Step.{step}
 use Rattle.definitions.specs.Book.{word, treeOf, WellFormed}
 use Rattle.definitions.specs.Answer.{gives, refuses}
 use Rattle.definitions.specs.Calls.{StepSays}
 use Rattle.definitions.proofs.Options.{none-some}
 use Rattle.definitions.proofs.Words.{present-word, no-owner, no-below}
-use Rattle.stepping.specs.Meaning.{Used}
 
 module _ (book : List ℕ) (s x : ℕ) where
   pub says-length : (length book ≡ bookLength → ⊥) → StepSays book s x (refuses 1)
@@ -32,7 +32,7 @@ module _ (book : List ℕ) (s x : ℕ) where
 
       module _ {o : ℕ} (e : o ≡ word (treeOf book .owner s)) (present : o ≡ absent → ⊥) where
         -- the node is in use
-        pub is-used : Used (treeOf book) s
+        pub is-used : UsedNode (treeOf book) s
         is-used = (o, present-word (treeOf book .owner s) e present)
 
         pub says-refined : {b : ℕ} → b ≡ word (treeOf book .below s) → (b ≡ absent → ⊥) → StepSays book s x (refuses 14)

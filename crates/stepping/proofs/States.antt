@@ -7,24 +7,24 @@ use Prim.Native.Nat.{ℕ, _<_}
 use native.Mathlib.Decide.{decLt}
 use native.Mathlib.Omega.{arith}
 use Rattle.definitions.specs.Limits.{nodes, absent}
-use Rattle.definitions.specs.Tree.{Tree}
+use Rattle.definitions.specs.Tree.{Tree, UsedNode}
 use Rattle.definitions.specs.Book.{word, treeOf, WellFormed}
 use Rattle.definitions.specs.Answer.{Refusal, InOrder}
 use Rattle.definitions.specs.Calls.{stateRefusals}
 use Rattle.definitions.proofs.Options.{none-some, present}
 use Rattle.definitions.proofs.Words.{present-word}
-use Rattle.stepping.specs.Meaning.{Used, StatesJudged}
+use Rattle.stepping.specs.Meaning.{StatesJudged}
 
 -- a and b are states in use
 pub record BothStates (t : Tree) (a b : ℕ) : Type 0 where
   pub range : (a < nodes) × (b < nodes)
-  pub used : Used t a × Used t b
+  pub used : UsedNode t a × UsedNode t b
   pub plain : (t .below a ≡ none) × (t .below b ≡ none)
 
-used-or : (t : Tree) (a b : ℕ) → ((t .owner a ≡ none) ⊎ (t .owner b ≡ none) → ⊥) → Used t a × Used t b
+used-or : (t : Tree) (a b : ℕ) → ((t .owner a ≡ none) ⊎ (t .owner b ≡ none) → ⊥) → UsedNode t a × UsedNode t b
 used-or t a b h = (go a (λ e. h (inl e)), go b (λ e. h (inr e)))
   where
-    go : (n : ℕ) → (t .owner n ≡ none → ⊥) → Used t n
+    go : (n : ℕ) → (t .owner n ≡ none → ⊥) → UsedNode t n
     go n f = ⊎-elim (λ e. absurd (f e)) (λ u. u) (present (t .owner n))
 
 range-or : (a b : ℕ) → (((a < nodes) × (b < nodes) → ⊥) → ⊥) → (a < nodes) × (b < nodes)

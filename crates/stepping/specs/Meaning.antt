@@ -19,10 +19,6 @@ abbrev pub answerOf : StepAnswer → Answer
 answerOf (StepAnswer.Moved s c) = gives (s ∷ c ∷ [])
 answerOf (StepAnswer.Refused k) = refuses k
 
--- node n is in use
-abbrev pub Used : Tree → ℕ → Type 0
-Used t n = (m : ℕ) × (t .owner n ≡ some m)
-
 abbrev pub climbOf : Climbed → Climb
 climbOf (Found n v c) = found n v c
 climbOf Passed = passed 0

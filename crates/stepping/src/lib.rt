@@ -3,11 +3,11 @@ ghost use mathlib.Core.Path.{_≡_};
 ghost use mathlib.Core.Option.{some};
 ghost use Prim.Native.Nat.{_<_};
 ghost use Rattle.definitions.specs.Limits.{commands};
-ghost use Rattle.definitions.specs.Tree.{level};
+ghost use Rattle.definitions.specs.Tree.{UsedNode, level};
 ghost use Rattle.definitions.specs.Book.{treeOf, WellFormed};
 ghost use Rattle.definitions.specs.Step.{enter, climb, step};
 ghost use Rattle.definitions.specs.Calls.{StepSays};
-ghost use Rattle.stepping.specs.Meaning.{Used, climbOf, stepOf, StatesJudged, answerOf};
+ghost use Rattle.stepping.specs.Meaning.{climbOf, stepOf, StatesJudged, answerOf};
 
 // Where a command finds a transition: the node that has it, its target and its cost; or that it finds none.
 pub enum Climbed {
@@ -29,7 +29,7 @@ pub enum StepAnswer {
 
 // The lowest node, s itself first and then the nodes that hold it, that has a transition for x.
 pub fn climb(book: &[u32], s: u32, x: u32) -> Climbed
-    requires { ⌜ WellFormed (now book) × Used (treeOf (now book)) s × (x < commands) ⌝ }
+    requires { ⌜ WellFormed (now book) × UsedNode (treeOf (now book)) s × (x < commands) ⌝ }
     ensures { λ r. ⌜ climbOf r ≡ climb (treeOf (now (book .entry))) (treeOf (now (book .entry)) .root) s x ⌝ }
 {
     let mut n = s;
@@ -52,7 +52,7 @@ pub fn climb(book: &[u32], s: u32, x: u32) -> Climbed
 
 // The state where node n is entered.
 pub fn enter(book: &[u32], n: u32) -> u32
-    requires { ⌜ WellFormed (now book) × Used (treeOf (now book)) n ⌝ }
+    requires { ⌜ WellFormed (now book) × UsedNode (treeOf (now book)) n ⌝ }
     ensures { λ r. ⌜ enter (treeOf (now (book .entry))) n ≡ some r ⌝ }
 {
     let mut v = n;
@@ -67,7 +67,7 @@ pub fn enter(book: &[u32], n: u32) -> u32
 
 // The level of node n's machine.
 pub fn level(book: &[u32], n: u32) -> u32
-    requires { ⌜ WellFormed (now book) × Used (treeOf (now book)) n ⌝ }
+    requires { ⌜ WellFormed (now book) × UsedNode (treeOf (now book)) n ⌝ }
     ensures { λ r. ⌜ r ≡ level (treeOf (now (book .entry))) n ⌝ }
 {
     let mut at = n;
@@ -84,7 +84,7 @@ pub fn level(book: &[u32], n: u32) -> u32
 
 // What command x does at state s.
 pub fn step_from(book: &[u32], s: u32, x: u32) -> Stepped
-    requires { ⌜ WellFormed (now book) × Used (treeOf (now book)) s × (x < commands) ⌝ }
+    requires { ⌜ WellFormed (now book) × UsedNode (treeOf (now book)) s × (x < commands) ⌝ }
     ensures { λ r. ⌜ stepOf r ≡ step (treeOf (now (book .entry))) s x ⌝ }
 {
     match climb(book, s, x) {

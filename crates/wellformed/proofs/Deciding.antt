@@ -6,11 +6,11 @@ use Prim.Native.Nat.{ℕ, _/_, _<_}
 use native.Mathlib.Omega.{arith}
 use lib.Dec.{eqb}
 use Rattle.definitions.specs.Limits.{machines, nodes, levels, costs, absent, blank}
-use Rattle.definitions.specs.Tree.{Tree}
+use Rattle.definitions.specs.Tree.{Tree, UsedNode, UsedMachine}
 use Rattle.definitions.specs.Book.{word, transitionWord}
 use Rattle.definitions.proofs.Words.{present-word}
 use Rattle.wellformed.specs.Decides.{Decides}
-use Rattle.wellformed.specs.Fits.{UsedMachine, UsedNode, Climbs, RootFits, StartFits, HolderFits}
+use Rattle.wellformed.specs.Fits.{Climbs, RootFits, StartFits, HolderFits}
 use Rattle.wellformed.specs.Fits.{OwnerFits, BelowFits, TransitionFits}
 use Rattle.wellformed.proofs.Decide.{decides-same, decides-if, decides-equal, decides-other}
 use Rattle.wellformed.proofs.Fits.{Read}

@@ -5,14 +5,7 @@ use mathlib.Core.Option.{none, some}
 use Prim.Native.Nat.{ℕ, _<_}
 use Rattle.definitions.specs.Basics.{iterate}
 use Rattle.definitions.specs.Limits.{machines, nodes, commands, levels}
-use Rattle.definitions.specs.Tree.{Tree, Transition, parent}
-
--- machine m, node n is in use
-abbrev pub UsedMachine : Tree → ℕ → Type 0
-UsedMachine t m = (s : ℕ) × (t .start m ≡ some s)
-
-abbrev pub UsedNode : Tree → ℕ → Type 0
-UsedNode t n = (m : ℕ) × (t .owner n ≡ some m)
+use Rattle.definitions.specs.Tree.{Tree, Transition, UsedMachine, UsedNode, parent}
 
 -- machine m climbs to the root in fewer than k steps
 abbrev pub Climbs : Tree → ℕ → ℕ → Type 0

@@ -15,13 +15,12 @@ use lib.Seq.{sets, set-out, length-sets, sets-eq, getD-set-same, getD-set-other}
 use borrow.Author.Tests.{eq-eqb, ne-eqb}
 use Rattle.definitions.specs.Basics.{option, joined}
 use Rattle.definitions.specs.Limits.{machines, nodes, commands, levels}
-use Rattle.definitions.specs.Tree.{Tree, Transition, Sound, level}
+use Rattle.definitions.specs.Tree.{Tree, Transition, UsedNode, Sound, level}
 use Rattle.definitions.specs.Edit.{isStart}
 use Rattle.definitions.specs.Book.{word}
 use Rattle.definitions.specs.Write.{pair, writtenBegin, writtenAdd, writtenRefine, writtenArrow, written}
 use Rattle.definitions.proofs.Options.{equal-or-not}
 use Rattle.definitions.proofs.Words.{start-range}
-use Rattle.stepping.specs.Meaning.{Used}
 use Rattle.writing.specs.Meaning.{Stored, Levels, writtenLevel, writtenArrows}
 
 -- ---- what may be absent, as a list
@@ -109,7 +108,7 @@ pub levels-all : {t : Tree} (k : ℕ) {list : List ℕ} → Levels t k list → 
 levels-all k b all = record { length = b .length; at = λ n h used. b .at n (omega arith) used }
 
 -- one level more
-pub levels-more : {t : Tree} {k : ℕ} {list : List ℕ} → Levels t k list → k < nodes → {l : ℕ} → (Used t k → l ≡ level t k)
+pub levels-more : {t : Tree} {k : ℕ} {list : List ℕ} → Levels t k list → k < nodes → {l : ℕ} → (UsedNode t k → l ≡ level t k)
     → Levels t (k + 1) (set list k l)
 levels-more {t} {k} {list} b small {l} e =
     record {
@@ -120,7 +119,7 @@ levels-more {t} {k} {list} b small {l} e =
           (λ same.
           ap (λ (j : ℕ). getD (set list k l) j 0) same
           ∙ getD-set-same list k l 0 (omega (arith, b .length))
-          ∙ e (subst (Used t) same used)
+          ∙ e (subst (UsedNode t) same used)
           ∙ ap (level t) (sym same))
           (λ other. getD-set-other list k n l 0 other ∙ b .at n (omega (arith, other)) used)
           (equal-or-not n k);
@@ -263,7 +262,7 @@ unfolding word
 told o {a} {w} there e = there ∙ ap some (sym (e ∙ ap word there))
 
 -- a node that holds a machine is in use
-pub refined-used : {t : Tree} → Sound t → {n m : ℕ} → t .below n ≡ some m → Used t n
+pub refined-used : {t : Tree} → Sound t → {n m : ℕ} → t .below n ≡ some m → UsedNode t n
 refined-used s {n} {m} bel = s .holder-used m n (s .below-held n m bel)
 
 module _ {t : Tree} (s : Sound t) {n m w : ℕ} where

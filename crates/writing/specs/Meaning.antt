@@ -7,10 +7,9 @@ use lib.ListN.{length, getD}
 use lib.Seq.{sets}
 use Rattle.definitions.specs.Basics.{joined}
 use Rattle.definitions.specs.Limits.{nodes, commands}
-use Rattle.definitions.specs.Tree.{Tree, level}
+use Rattle.definitions.specs.Tree.{Tree, UsedNode, level}
 use Rattle.definitions.specs.Answer.{Answer, gives, refuses}
 use Rattle.definitions.specs.Write.{writtenAdd, writtenRefine, writtenArrow}
-use Rattle.stepping.specs.Meaning.{Used}
 use Rattle.writing.specs.declared.WriteAnswer.{WriteAnswer}
 use Rattle.writing.specs.declared.WriteAnswer.the-variants.{Written, Refused}
 
@@ -22,7 +21,7 @@ pub record Stored (out : List ℕ) (at : ℕ) (bytes : List ℕ) (end : ℕ) (ou
 -- a list with room for every node that holds the levels of the first k, as far as they are in use
 pub record Levels (t : Tree) (k : ℕ) (list : List ℕ) : Type 0 where
   pub length : length list ≡ nodes
-  pub at : (n : ℕ) → n < k → Used t n → getD list n 0 ≡ level t n
+  pub at : (n : ℕ) → n < k → UsedNode t n → getD list n 0 ≡ level t n
 
 -- what `written` has for one level (the root's is l = 0), and for one node's transitions
 abbrev pub writtenLevel : Tree → ℕ → List ℕ

@@ -5,11 +5,10 @@ ghost use Prim.Native.Nat.{_+_, _*_, _/_, _%_, _^_, _≤_, _<_};
 ghost use lib.ListN.{length, drop};
 ghost use Rattle.definitions.specs.Basics.{joined};
 ghost use Rattle.definitions.specs.Limits.{machines, nodes, commands, levels};
-ghost use Rattle.definitions.specs.Tree.{level};
+ghost use Rattle.definitions.specs.Tree.{UsedNode, level};
 ghost use Rattle.definitions.specs.Book.{treeOf, WellFormed};
 ghost use Rattle.definitions.specs.Write.{pair, writtenAdd, writtenRefine, writtenArrow, written, WriteSays};
 ghost use Rattle.wellformed.specs.Decides.{Decides};
-ghost use Rattle.stepping.specs.Meaning.{Used};
 ghost use Rattle.writing.specs.Meaning.{Stored, Levels, writtenLevel, writtenArrows, answerOf};
 
 // What Write answers: the length of the stream, or the number of a refusal.
@@ -27,7 +26,7 @@ const LONGEST: usize = 33918;
 // The level of node n's machine, if n is in use.
 fn node_level(book: &[u32], n: u32) -> u32
     requires { ⌜ WellFormed (now book) × (n < nodes) ⌝ }
-    ensures { λ r. ⌜ (Used (treeOf (now (book .entry))) n → r ≡ level (treeOf (now (book .entry))) n) ⌝ }
+    ensures { λ r. ⌜ (UsedNode (treeOf (now (book .entry))) n → r ≡ level (treeOf (now (book .entry))) n) ⌝ }
 {
     if book::owner(book, n) == book::ABSENT {
         return 0;

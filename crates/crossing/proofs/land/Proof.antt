@@ -4,10 +4,9 @@ use Prim.Native.Nat.{_-_}
 use native.Mathlib.Omega.{arith}
 use denote.Ref.{now}
 use Rattle.definitions.specs.Limits.{levels}
-use Rattle.definitions.specs.Tree.{level}
+use Rattle.definitions.specs.Tree.{UsedNode, level}
 use Rattle.definitions.specs.Book.{treeOf}
 use Rattle.plantheory.specs.Search.{land}
-use Rattle.stepping.specs.Meaning.{Used}
 use Rattle.stepping.proofs.Laws.{used-range, below-told}
 use Rattle.crossing.specs.Parts.{isOpen}
 use Rattle.crossing.proofs.Landing.{lands-plain, lands-shut, Lands-on, lands-on}
@@ -15,7 +14,7 @@ use Rattle.crossing.proofs.land.Statement.{statement}
 use Rattle.crossing.proofs.land.Tie as tie
 
 abbrev Inv-loop : tie.InvT-loop
-Inv-loop book opened v w₀ w = Used (treeOf book) w × (land (treeOf book) (isOpen opened) v ≡ land (treeOf book) (isOpen opened) w)
+Inv-loop book opened v w₀ w = UsedNode (treeOf book) w × (land (treeOf book) (isOpen opened) v ≡ land (treeOf book) (isOpen opened) w)
 
 abbrev μ-loop : tie.MeasureT-loop
 μ-loop book opened v w₀ w = levels - level (treeOf book) w

@@ -2,9 +2,8 @@
 -- level up. Assumes nothing.
 use mathlib.Core.Path.{sym, _∙_}
 use denote.Ref.{now}
-use Rattle.definitions.specs.Tree.{level, over}
+use Rattle.definitions.specs.Tree.{UsedNode, level, over}
 use Rattle.definitions.specs.Book.{treeOf}
-use Rattle.stepping.specs.Meaning.{Used}
 use Rattle.stepping.proofs.Laws.{used-range}
 use Rattle.marking.proofs.Climb.{Climbing, climb-starts, machine-range, stops-told, ends-told, goes-on-told, holder-used, higher-told}
 use borrow.Author.Needs.{needs}
@@ -12,7 +11,7 @@ use Rattle.marking.proofs.mark_over.Statement.{statement}
 use Rattle.marking.proofs.mark_over.Tie as tie
 
 abbrev Inv-loop : tie.InvT-loop
-Inv-loop book sheet₀ n list₀ k₀ sheet list k = Used (treeOf book) k × Climbing (treeOf book) sheet₀ sheet n list (λ p. over (treeOf book) p k)
+Inv-loop book sheet₀ n list₀ k₀ sheet list k = UsedNode (treeOf book) k × Climbing (treeOf book) sheet₀ sheet n list (λ p. over (treeOf book) p k)
 
 abbrev μ-loop : tie.MeasureT-loop
 μ-loop book sheet₀ n list₀ k₀ sheet list k = level (treeOf book) k

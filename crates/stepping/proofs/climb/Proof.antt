@@ -2,17 +2,16 @@
 -- Assumes nothing.
 use mathlib.Core.Path.{_≡_, refl, sym, _∙_}
 use denote.Ref.{now}
-use Rattle.definitions.specs.Tree.{level}
+use Rattle.definitions.specs.Tree.{UsedNode, level}
 use Rattle.definitions.specs.Book.{treeOf}
 use Rattle.definitions.specs.Step.{climb}
-use Rattle.stepping.specs.Meaning.{Used}
 use Rattle.stepping.proofs.Laws.{used-range, owner-told, transition-told, top-told, Climbed-on, up-told}
 use Rattle.stepping.proofs.climb.Statement.{statement}
 use Rattle.stepping.proofs.climb.Tie as tie
 
 abbrev Inv-loop : tie.InvT-loop
 Inv-loop book s x n₀ n =
-    Used (treeOf book) n × (climb (treeOf book) (treeOf book .root) s x ≡ climb (treeOf book) (treeOf book .root) n x)
+    UsedNode (treeOf book) n × (climb (treeOf book) (treeOf book .root) s x ≡ climb (treeOf book) (treeOf book .root) n x)
 
 abbrev μ-loop : tie.MeasureT-loop
 μ-loop book s x n₀ n = level (treeOf book) n

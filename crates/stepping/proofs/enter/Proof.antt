@@ -3,16 +3,15 @@ use mathlib.Core.Path.{_≡_, refl, _∙_}
 use Prim.Native.Nat.{_-_}
 use denote.Ref.{now}
 use Rattle.definitions.specs.Limits.{levels}
-use Rattle.definitions.specs.Tree.{level}
+use Rattle.definitions.specs.Tree.{UsedNode, level}
 use Rattle.definitions.specs.Book.{treeOf}
 use Rattle.definitions.specs.Step.{enter}
-use Rattle.stepping.specs.Meaning.{Used}
 use Rattle.stepping.proofs.Laws.{used-range, plain-told, below-told, Entered-on, down-told}
 use Rattle.stepping.proofs.enter.Statement.{statement}
 use Rattle.stepping.proofs.enter.Tie as tie
 
 abbrev Inv-loop : tie.InvT-loop
-Inv-loop book n v₀ v = Used (treeOf book) v × (enter (treeOf book) n ≡ enter (treeOf book) v)
+Inv-loop book n v₀ v = UsedNode (treeOf book) v × (enter (treeOf book) n ≡ enter (treeOf book) v)
 
 abbrev μ-loop : tie.MeasureT-loop
 μ-loop book n v₀ v = levels - level (treeOf book) v

@@ -3,16 +3,15 @@ use mathlib.Core.Path.{_≡_}
 use Prim.Native.Nat.{suc, _+_}
 use native.Mathlib.Omega.{arith}
 use denote.Ref.{now}
-use Rattle.definitions.specs.Tree.{level}
+use Rattle.definitions.specs.Tree.{UsedNode, level}
 use Rattle.definitions.specs.Book.{treeOf}
 use Rattle.definitions.proofs.Path.{level-bound}
-use Rattle.stepping.specs.Meaning.{Used}
 use Rattle.stepping.proofs.Laws.{used-range, owner-told, level-top, level-up}
 use Rattle.stepping.proofs.level.Statement.{statement}
 use Rattle.stepping.proofs.level.Tie as tie
 
 abbrev Inv-loop : tie.InvT-loop
-Inv-loop book n at₀ count₀ at count = Used (treeOf book) at × (count + level (treeOf book) at ≡ suc (level (treeOf book) n))
+Inv-loop book n at₀ count₀ at count = UsedNode (treeOf book) at × (count + level (treeOf book) at ≡ suc (level (treeOf book) n))
 
 abbrev μ-loop : tie.MeasureT-loop
 μ-loop book n at₀ count₀ at count = level (treeOf book) at
@@ -41,7 +40,7 @@ returns c =
 
 -- the next turn: one level up
 next : (c : tie.Else1 Inv-loop μ-loop)
-    → Used (treeOf (now (c .before .before .before .before .before .args .book))) (c .before .holder .result)
+    → UsedNode (treeOf (now (c .before .before .before .before .before .args .book))) (c .before .holder .result)
     × (level (treeOf (now (c .before .before .before .before .before .args .book))) (c .before .before .before .loop .at)
     ≡ suc (level (treeOf (now (c .before .before .before .before .before .args .book))) (c .before .holder .result)))
 next c =
