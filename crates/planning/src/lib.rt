@@ -8,7 +8,7 @@ ghost use Rattle.definitions.specs.Tree.{isState, states};
 ghost use Rattle.definitions.specs.Book.{treeOf, WellFormed};
 ghost use Rattle.definitions.specs.Sheet.{rowsOf};
 ghost use Rattle.definitions.specs.Calls.{PlanSays};
-ghost use Rattle.wellformed.specs.Decides.{Decides};
+ghost use Rattle.book.specs.Decides.{Decides};
 ghost use Rattle.planning.specs.Meaning.{answerOf, Plannable, Answers};
 
 // Plan's answer: the cost and the number of commands, or a refusal's number.

@@ -15,8 +15,8 @@ use Rattle.definitions.specs.Truth.{nodeExit}
 use Rattle.definitions.proofs.Options.{none-some, some-same}
 use Rattle.definitions.proofs.Words.{present-word, below-range, no-below}
 use Rattle.definitions.proofs.Local.{exit-plain, exit-refined}
-use Rattle.wellformed.specs.Decides.{Decides}
-use Rattle.wellformed.proofs.Decide.{decides-equal}
+use Rattle.book.specs.Decides.{Decides}
+use Rattle.book.proofs.Decide.{decides-equal}
 use Rattle.truesheet.specs.declared.OwnExit.{OwnExit}
 use Rattle.truesheet.specs.declared.OwnExit.the-variants.{Costs, Never}
 use Rattle.truesheet.specs.Meaning.{exitOf, exitLimit, Exits}

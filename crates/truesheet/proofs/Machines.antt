@@ -17,8 +17,8 @@ use Rattle.definitions.specs.Truth.{BlankMachine, Ended}
 use Rattle.definitions.proofs.Options.{bind-some, none-some, some-same, true-false}
 use Rattle.definitions.proofs.Words.{present-word, owner-range, holder-range, no-holder, no-start, no-transition}
 use Rattle.sheet.specs.Fields.{Mark}
-use Rattle.wellformed.specs.Decides.{Decides}
-use Rattle.wellformed.proofs.Decide.{decides-same, decides-equal}
+use Rattle.book.specs.Decides.{Decides}
+use Rattle.book.proofs.Decide.{decides-same, decides-equal}
 use Rattle.wellformed.proofs.Reading.{said-is, unsaid-is, unsaid}
 use Rattle.truesheet.specs.Fits.{AddsUp, BlankExit, ExitFits, ExitsFit, AboveStale, MachineFits}
 use Rattle.truesheet.proofs.Reading.{ReadRows, cost-is, blank-is, cost-said, cost-unsaid}

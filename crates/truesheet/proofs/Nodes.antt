@@ -16,8 +16,8 @@ use Rattle.definitions.proofs.Options.{none-some, some-same, true-false}
 use Rattle.definitions.proofs.Words.{present-word, owner-range, target-range, no-owner, some-transition}
 use Rattle.definitions.proofs.Local.{move-by, move-parts}
 use Rattle.sheet.specs.Fields.{Mark}
-use Rattle.wellformed.specs.Decides.{Decides}
-use Rattle.wellformed.proofs.Decide.{decides-same, decides-equal}
+use Rattle.book.specs.Decides.{Decides}
+use Rattle.book.proofs.Decide.{decides-same, decides-equal}
 use Rattle.wellformed.proofs.Reading.{said-is, unsaid-is, unsaid}
 use Rattle.truesheet.specs.declared.OwnExit.{OwnExit}
 use Rattle.truesheet.specs.declared.OwnExit.the-variants.{Costs, Never}

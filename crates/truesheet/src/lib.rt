@@ -8,7 +8,7 @@ ghost use Rattle.definitions.specs.Step.{counting};
 ghost use Rattle.definitions.specs.Book.{transitionWord, treeOf, WellFormed};
 ghost use Rattle.definitions.specs.Sheet.{costOf, rowsOf};
 ghost use Rattle.definitions.specs.Truth.{nodeExit, BlankMachine, BlankNode, Named, Ended, TrueSheet};
-ghost use Rattle.wellformed.specs.Decides.{Decides};
+ghost use Rattle.book.specs.Decides.{Decides};
 ghost use Rattle.truesheet.specs.Meaning.{exitLimit, Exits};
 ghost use Rattle.truesheet.specs.Fits.{AtMost, Holding, AddsUp, BlankExit, ExitFits, ExitsFit, AboveStale, MachineFits, MachinesFit};
 ghost use Rattle.truesheet.specs.Fits.{StartFits, RelaxedBy, RelaxedAt, FilledFits, NodeFits, NodesFit};

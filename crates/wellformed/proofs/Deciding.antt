@@ -9,10 +9,10 @@ use Rattle.definitions.specs.Limits.{machines, nodes, levels, costs, absent, bl
 use Rattle.definitions.specs.Tree.{Tree, UsedNode, UsedMachine}
 use Rattle.definitions.specs.Book.{word, transitionWord}
 use Rattle.definitions.proofs.Words.{present-word}
-use Rattle.wellformed.specs.Decides.{Decides}
+use Rattle.book.specs.Decides.{Decides}
 use Rattle.wellformed.specs.Fits.{Climbs, RootFits, StartFits, HolderFits}
 use Rattle.wellformed.specs.Fits.{OwnerFits, BelowFits, TransitionFits}
-use Rattle.wellformed.proofs.Decide.{decides-same, decides-if, decides-equal, decides-other}
+use Rattle.book.proofs.Decide.{decides-same, decides-if, decides-equal, decides-other}
 use Rattle.wellformed.proofs.Fits.{Read}
 use Rattle.wellformed.proofs.Reading.{said-is, unsaid-is, unsaid, said-all, unsaid-all, transition-said, transition-target}
 

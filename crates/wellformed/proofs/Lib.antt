@@ -1,4 +1,3 @@
-pub mod Decide
 pub mod Fits
 pub mod Reading
 pub mod Climbing

@@ -6,7 +6,7 @@ ghost use lib.ListN.{length};
 ghost use Rattle.definitions.specs.Limits.{machines, nodes, commands, levels, bookLength};
 ghost use Rattle.definitions.specs.Tree.{parent};
 ghost use Rattle.definitions.specs.Book.{word, treeOf, WellFormed};
-ghost use Rattle.wellformed.specs.Decides.{Decides};
+ghost use Rattle.book.specs.Decides.{Decides};
 ghost use Rattle.wellformed.specs.Fits.{Climbs, RootFits, StartFits, HolderFits, MachineFits, MachinesFit};
 ghost use Rattle.wellformed.specs.Fits.{OwnerFits, BelowFits, TransitionFits, TransitionsFit, NodeFits, NodesFit};
 

@@ -7,8 +7,8 @@ use native.Mathlib.Omega.{arith}
 use lib.Dec.{eqb}
 use lib.ListN.{length, getD, drop, length-append, drop-of-length-le}
 use lib.Seq.{take-at, drop-at, drop-cons, drop-drop}
-use Rattle.wellformed.specs.Decides.{Decides}
-use Rattle.wellformed.proofs.Decide.{decides-equal}
+use Rattle.book.specs.Decides.{Decides}
+use Rattle.book.proofs.Decide.{decides-equal}
 use Rattle.wholerun.specs.Ends.{Rising, streamsOf, together, endsOf}
 
 -- the ends of streams rise, from their offset to that and all their bytes

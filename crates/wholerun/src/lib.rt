@@ -7,7 +7,7 @@ ghost use Rattle.definitions.specs.Load.{expected};
 ghost use Rattle.definitions.specs.Open.{openTree};
 ghost use Rattle.definitions.specs.Calls.{OpenSays};
 ghost use Rattle.definitions.specs.Demand.{Loads, refreshAlone};
-ghost use Rattle.wellformed.specs.Decides.{Decides};
+ghost use Rattle.book.specs.Decides.{Decides};
 ghost use Rattle.planning.specs.Meaning.{answerOf};
 ghost use Rattle.wholerun.specs.Ends.{Rising, streamsOf};
 ghost use Rattle.wholerun.specs.Meaning.{openingOf};

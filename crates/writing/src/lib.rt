@@ -8,7 +8,7 @@ ghost use Rattle.definitions.specs.Limits.{machines, nodes, commands, levels};
 ghost use Rattle.definitions.specs.Tree.{UsedNode, level};
 ghost use Rattle.definitions.specs.Book.{treeOf, WellFormed};
 ghost use Rattle.definitions.specs.Write.{pair, writtenAdd, writtenRefine, writtenArrow, written, WriteSays};
-ghost use Rattle.wellformed.specs.Decides.{Decides};
+ghost use Rattle.book.specs.Decides.{Decides};
 ghost use Rattle.writing.specs.Meaning.{Stored, Levels, writtenLevel, writtenArrows, answerOf};
 
 // What Write answers: the length of the stream, or the number of a refusal.

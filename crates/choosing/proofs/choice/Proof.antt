@@ -5,7 +5,7 @@ use denote.Ref.{now}
 use Rattle.definitions.specs.Book.{treeOf, WellFormed}
 use Rattle.definitions.specs.Choose.{cheaper}
 use Rattle.choosing.specs.Meaning.{usedIn}
-use Rattle.wellformed.proofs.Decide.{passed, refused}
+use Rattle.book.proofs.Decide.{passed, refused}
 use Rattle.stepping.proofs.States.{BothStates, both-states}
 use Rattle.choosing.proofs.Says.{says-length, says-torn, says-states, says-chosen, chosen-numbered}
 use Rattle.choosing.proofs.choice.Statement.{statement}

@@ -5,7 +5,7 @@ use borrow.Author.Needs.{needs}
 use denote.Ref.{now}
 use Rattle.definitions.specs.Book.{treeOf, WellFormed}
 use Rattle.definitions.specs.Truth.{TrueSheet}
-use Rattle.wellformed.proofs.Decide.{passed, refused}
+use Rattle.book.proofs.Decide.{passed, refused}
 use Rattle.exiting.proofs.Says.{says-length, says-torn, says-untrue, says-range, says-unused, says-stale, says-no-way, says-costs}
 use Rattle.exiting.proofs.exit.Statement.{statement}
 use Rattle.exiting.proofs.exit.Tie as tie

@@ -3,7 +3,7 @@ use mathlib.Core.Logic.{inl, inr}
 use denote.Ref.{now}
 use Rattle.definitions.specs.Book.{treeOf, WellFormed}
 use Rattle.definitions.specs.Truth.{TrueSheet}
-use Rattle.wellformed.proofs.Decide.{passed, refused}
+use Rattle.book.proofs.Decide.{passed, refused}
 use Rattle.loading.proofs.Says.{says-length, says-torn, says-untrue, says-done}
 use borrow.Author.Needs.{needs}
 use Rattle.loading.proofs.load.Statement.{statement}

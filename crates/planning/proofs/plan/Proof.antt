@@ -9,7 +9,7 @@ use denote.Ref.{now}
 use Rattle.definitions.specs.Book.{treeOf, WellFormed}
 use Rattle.definitions.specs.Sheet.{rowsOf}
 use Rattle.definitions.specs.Truth.{TrueSheet}
-use Rattle.wellformed.proofs.Decide.{holds, fails, passed, refused}
+use Rattle.book.proofs.Decide.{holds, fails, passed, refused}
 use Rattle.stepping.proofs.States.{BothStates, both-states}
 use Rattle.planning.proofs.Laws.{none-stale}
 use Rattle.planning.proofs.Says.{says-length, says-torn, says-untrue, says-stale, says-states, says-short, says-answers}

@@ -4,7 +4,7 @@ use native.Mathlib.Omega.{arith}
 use borrow.Author.Needs.{needs}
 use denote.Ref.{now}
 use Rattle.definitions.specs.Book.{WellFormed}
-use Rattle.wellformed.proofs.Decide.{passed, refused}
+use Rattle.book.proofs.Decide.{passed, refused}
 use Rattle.stepping.specs.Meaning.{stepOf}
 use Rattle.stepping.proofs.Says.{says-length, says-torn, says-range, says-unused, says-refined, is-used, says-stopped, says-moved}
 use Rattle.stepping.proofs.step.Statement.{statement}

@@ -7,7 +7,7 @@ use borrow.Author.Needs.{needs}
 use Rattle.definitions.specs.Limits.{commands}
 use Rattle.definitions.specs.Book.{treeOf}
 use Rattle.definitions.specs.Sheet.{rowsOf}
-use Rattle.wellformed.proofs.Decide.{passed, refused}
+use Rattle.book.proofs.Decide.{passed, refused}
 use Rattle.truesheet.specs.Fits.{ExitFits}
 use Rattle.truesheet.proofs.exits_fit.Statement.{statement}
 use Rattle.truesheet.proofs.exits_fit.Tie as tie

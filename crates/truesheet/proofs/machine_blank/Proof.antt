@@ -6,7 +6,7 @@ use borrow.Author.Count.{below-none, below-more}
 use borrow.Author.Needs.{needs}
 use Rattle.definitions.specs.Limits.{commands}
 use Rattle.definitions.specs.Sheet.{rowsOf}
-use Rattle.wellformed.proofs.Decide.{passed, refused}
+use Rattle.book.proofs.Decide.{passed, refused}
 use Rattle.truesheet.specs.Fits.{BlankExit}
 use Rattle.truesheet.proofs.Machines.{machine-blank, blank-exits}
 use Rattle.truesheet.proofs.machine_blank.Statement.{statement}

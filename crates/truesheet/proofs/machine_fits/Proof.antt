@@ -2,7 +2,7 @@
 use mathlib.Core.Path.{_≡_}
 use native.Mathlib.Omega.{arith}
 use borrow.Author.Needs.{needs}
-use Rattle.wellformed.proofs.Decide.{passed, refused}
+use Rattle.book.proofs.Decide.{passed, refused}
 use Rattle.truesheet.proofs.Machines.{mark-other, machine-unused, machine-filled, stale-unused, stale-alone, machine-stale}
 use Rattle.truesheet.proofs.machine_fits.Statement.{statement}
 use Rattle.truesheet.proofs.machine_fits.Tie as tie

@@ -6,7 +6,7 @@ use borrow.Author.Count.{below-none, below-more}
 use borrow.Author.Needs.{needs}
 use Rattle.definitions.specs.Limits.{machines}
 use Rattle.definitions.specs.Book.{treeOf}
-use Rattle.wellformed.proofs.Decide.{passed, refused}
+use Rattle.book.proofs.Decide.{passed, refused}
 use Rattle.truesheet.specs.Fits.{MachineFits}
 use Rattle.truesheet.proofs.machines_fit.Statement.{statement}
 use Rattle.truesheet.proofs.machines_fit.Tie as tie

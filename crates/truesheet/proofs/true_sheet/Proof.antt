@@ -6,7 +6,7 @@ use denote.Ref.{now}
 use lib.ListN.{length}
 use borrow.Author.Needs.{needs}
 use Rattle.definitions.specs.Limits.{sheetLength}
-use Rattle.wellformed.proofs.Decide.{passed, refused, decides-same}
+use Rattle.book.proofs.Decide.{passed, refused, decides-same}
 use Rattle.truesheet.proofs.Reading.{rowsOf-read}
 use Rattle.truesheet.proofs.Fits.{names-fit, true-fits}
 use Rattle.truesheet.proofs.true_sheet.Statement.{statement}

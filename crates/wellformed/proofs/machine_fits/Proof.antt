@@ -1,5 +1,5 @@
 -- `wellformed::machine_fits` meets its contract: what its two callees decide, together. Assumes nothing.
-use Rattle.wellformed.proofs.Decide.{passed, refused, decides-same}
+use Rattle.book.proofs.Decide.{passed, refused, decides-same}
 use borrow.Author.Needs.{needs}
 use Rattle.wellformed.proofs.machine_fits.Statement.{statement}
 use Rattle.wellformed.proofs.machine_fits.Tie as tie

@@ -7,7 +7,7 @@ use borrow.Author.Needs.{needs}
 use Rattle.definitions.specs.Limits.{machines}
 use Rattle.definitions.specs.Book.{treeOf}
 use Rattle.wellformed.specs.Fits.{MachineFits}
-use Rattle.wellformed.proofs.Decide.{passed, refused}
+use Rattle.book.proofs.Decide.{passed, refused}
 use Rattle.wellformed.proofs.machines_fit.Statement.{statement}
 use Rattle.wellformed.proofs.machines_fit.Tie as tie
 

@@ -1,5 +1,5 @@
 -- `wellformed::node_fits` meets its contract: what its three callees decide, together. Assumes nothing.
-use Rattle.wellformed.proofs.Decide.{passed, refused, decides-same}
+use Rattle.book.proofs.Decide.{passed, refused, decides-same}
 use borrow.Author.Needs.{needs}
 use Rattle.wellformed.proofs.node_fits.Statement.{statement}
 use Rattle.wellformed.proofs.node_fits.Tie as tie

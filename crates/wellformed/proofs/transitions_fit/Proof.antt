@@ -7,7 +7,7 @@ use borrow.Author.Needs.{needs}
 use Rattle.definitions.specs.Limits.{commands}
 use Rattle.definitions.specs.Book.{treeOf}
 use Rattle.wellformed.specs.Fits.{TransitionFits}
-use Rattle.wellformed.proofs.Decide.{passed, refused}
+use Rattle.book.proofs.Decide.{passed, refused}
 use Rattle.wellformed.proofs.transitions_fit.Statement.{statement}
 use Rattle.wellformed.proofs.transitions_fit.Tie as tie
 

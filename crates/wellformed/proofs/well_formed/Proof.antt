@@ -5,7 +5,7 @@ use native.Mathlib.Omega.{arith}
 use denote.Ref.{now}
 use lib.ListN.{length}
 use Rattle.definitions.specs.Limits.{bookLength}
-use Rattle.wellformed.proofs.Decide.{passed, refused, decides-same}
+use Rattle.book.proofs.Decide.{passed, refused, decides-same}
 use Rattle.wellformed.proofs.Fits.{sound-fits}
 use Rattle.wellformed.proofs.Reading.{treeOf-read}
 use borrow.Author.Needs.{needs}

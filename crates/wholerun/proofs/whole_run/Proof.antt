@@ -5,7 +5,7 @@ use lib.ListN.{length}
 use denote.Ref.{now}
 use Rattle.definitions.proofs.Kept.{expected-sound}
 use Rattle.definitions.proofs.Opened.{open-sound}
-use Rattle.wellformed.proofs.Decide.{passed, refused}
+use Rattle.book.proofs.Decide.{passed, refused}
 use Rattle.wholerun.specs.Ends.{Rising, streamsOf}
 use Rattle.wholerun.specs.Meaning.{openingOf}
 use Rattle.wholerun.proofs.Streams.{all-bytes, streams-bytes}

@@ -5,7 +5,7 @@ use Prim.Native.Nat.{ℕ}
 use lib.Dec.{eqb}
 use borrow.Author.Tests.{eqb-true, eqb-false, not-true, not-false}
 use Rattle.definitions.proofs.Options.{true-false}
-use Rattle.wellformed.specs.Decides.{Decides}
+use Rattle.book.specs.Decides.{Decides}
 
 -- an answer that is true, and one that is false
 pub holds : {P : Type 0} (b : Bool) → Decides b P → b ≡ true → P
