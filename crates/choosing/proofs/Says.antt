@@ -14,8 +14,10 @@ use Rattle.definitions.specs.Limits.{commands, bookLength, longestList}
 use Rattle.definitions.specs.Tree.{Tree}
 use Rattle.definitions.specs.Step.{Arrival, step}
 use Rattle.definitions.specs.Book.{treeOf, WellFormed}
-use Rattle.definitions.specs.Answer.{Refusal, refuse, InOrder}
+use Rattle.definitions.specs.Answer.{Refusal, wants, InOrder}
+use Rattle.definitions.specs.Calls.{bookRefusals, stateRefusals}
 use Rattle.definitions.specs.Choose.{Used, usedPart, usedOf, Choice, first, second, cheaper, cheaperOf, ChoiceSays}
+use Rattle.definitions.proofs.Answers.{in-order-done}
 use Rattle.definitions.proofs.Options.{bind-some, none-some, some-same}
 use Rattle.stepping.specs.Meaning.{StatesJudged}
 use Rattle.stepping.proofs.States.{BothStates, states-met, states-past}
@@ -24,7 +26,7 @@ use Rattle.choosing.specs.declared.Chosen.{Chosen}
 
 -- the refusal after those of the two states, what a refusal says, and what is said where none holds
 abbrev neither : Tree → ℕ → ℕ → List ℕ → List ℕ → List Refusal
-neither t a b one two = refuse 18 (cheaperOf t a b one two ≡ none) ∷ []
+neither t a b one two = wants 18 (cheaperOf t a b one two) ∷ []
 
 abbrev Refuses : Choice → ℕ → ℕ → Type 0
 Refuses choice number k = (choice ≡ first 0) × (number ≡ k)
@@ -48,7 +50,7 @@ module _ (book : List ℕ) (a b : ℕ) (one two : List ℕ) where
   says-length wrong = inl (wrong, (refl, refl))
 
   pub says-torn : length book ≡ bookLength → (WellFormed book → ⊥) → ChoiceSays book a b one two (first 0) 2
-  says-torn l torn = inr (λ wrong. wrong l, inl (torn, (refl, refl)))
+  says-torn l torn = inr (l, inl (torn, (refl, refl)))
 
   module _ (w : WellFormed book) where
     -- 6, 7, 14: a or b is no state
@@ -56,9 +58,9 @@ module _ (book : List ℕ) (a b : ℕ) (one two : List ℕ) where
     says-states r judged nonzero =
         let t = treeOf book in
         inr (
-          λ wrong. wrong (w .length),
+          w .length,
           inr (
-            λ torn. torn w,
+            w,
             states-met t a b r judged nonzero (neither t a b one two) (Refuses (first 0) r) (Chooses t a b one two (first 0) r) (refl, refl),
           ),
         )
@@ -70,9 +72,9 @@ module _ (book : List ℕ) (a b : ℕ) (one two : List ℕ) where
     says-chosen states {r = r} e f chosen =
         let t = treeOf book in
         inr (
-          λ wrong. wrong (w .length),
+          w .length,
           inr (
-            λ torn. torn w,
+            w,
             states-past states (neither t a b one two) (Refuses (choiceOf r) (numberOf r)) (Chooses t a b one two (choiceOf r) (numberOf r))
                 (go (cheaperOf t a b one two) refl (chosen ∙ ap₂ (λ (u v : Option Used). chosenBy (cheaper u v)) e f)),
           ),
@@ -84,17 +86,13 @@ module _ (book : List ℕ) (a b : ℕ) (one two : List ℕ) where
         go none e h = inl (e, (ap choiceOf h, ap numberOf h))
         go (some choice) e h =
             let named = sym (ap choiceOf h ∙ chosen-some choice .0) in
-            inr (λ none-arrives. none-some none-arrives e, (e ∙ ap {B = Option Choice} some named, ap numberOf h ∙ chosen-some choice .1))
+            inr ((choice, e), (e ∙ ap {B = Option Choice} some named, ap numberOf h ∙ chosen-some choice .1))
 
   -- with the number 0 the choice is the cheaper part
   pub says-done : {choice : Choice} → ChoiceSays book a b one two choice 0 → cheaperOf (treeOf book) a b one two ≡ some choice
-  says-done (inl (wrong, (e, n))) = absurd (let z : _≡_ {A = ℕ} 0 1 = n in omega arith)
-  says-done (inr (l, inl (torn, (e, n)))) = absurd (let z : _≡_ {A = ℕ} 0 2 = n in omega arith)
-  says-done (inr (l, inr (w, inl (out, (e, n))))) = absurd (let z : _≡_ {A = ℕ} 0 6 = n in omega arith)
-  says-done (inr (l, inr (w, inr (range, inl (unused, (e, n)))))) = absurd (let z : _≡_ {A = ℕ} 0 7 = n in omega arith)
-  says-done (inr (l, inr (w, inr (range, inr (used, inl (refined, (e, n))))))) = absurd (let z : _≡_ {A = ℕ} 0 14 = n in omega arith)
-  says-done (inr (l, inr (w, inr (range, inr (used, inr (plain, inl (missed, (e, n)))))))) = absurd (let z : _≡_ {A = ℕ} 0 18 = n in omega arith)
-  says-done (inr (l, inr (w, inr (range, inr (used, inr (plain, inr (arrives, (e, n)))))))) = e
+  says-done {choice} says =
+      in-order-done (bookRefusals book (stateRefusals (treeOf book) a b (neither (treeOf book) a b one two))) refl {R = Refuses choice 0}
+      (λ k other refused. other (sym (refused .1))) says .1 .0
 
 -- ---- the part chosen is within its list
 

@@ -128,7 +128,8 @@ pub fn choose<'a>(
     second: &'a [u8],
     word: &mut u32,
 ) -> &'a [u8]
-    ensures { λ r. ⌜ ChooseSays (now (book .entry)) a b (now (first .entry)) (now (second .entry)) (now r) (now (word .exit)) ⌝ }
+    ensures { λ r. ⌜ ChooseSays (now (book .entry)) a b (now (first .entry)) (now (second .entry)) (now r) (now (word .exit))
+        (first .entry .ptr) (second .entry .ptr) (r .ptr) ⌝ }
 {
     match choice(book, a, b, first, second) {
         Chosen::First(n) => {

@@ -1,24 +1,73 @@
--- What Write and Load say together of a copy. Assumes nothing.
-use mathlib.Core.Path.{_≡_, refl, ap}
+-- What Load and Write say together of a copy. Assumes nothing.
+use mathlib.Core.Path.{_≡_, refl, sym, _∙_, ap, subst}
 use mathlib.Core.Logic.{inl, inr}
-use mathlib.Core.List.{List, [], _∷_, List-discrete}
+use mathlib.Core.List.{List, [], _∷_, _++_}
 use Prim.Native.Nat.{ℕ, _≤_}
-use native.Mathlib.Decide.{ℕ-discrete}
 use native.Mathlib.Omega.{arith}
-use lib.ListN.{length, take, length-take}
-use Rattle.definitions.specs.Book.{treeOf, WellFormed}
-use Rattle.definitions.specs.Sheet.{encodeRows}
+use lib.ListN.{length, take, drop, length-take}
+use Rattle.definitions.specs.Tree.{Tree}
+use Rattle.definitions.specs.Book.{treeOf, encode, WellFormed}
+use Rattle.definitions.specs.Sheet.{rowsOf, encodeRows}
 use Rattle.definitions.specs.Truth.{TrueSheet}
+use Rattle.definitions.specs.Load.{Outcome, load, stopped}
 use Rattle.definitions.specs.Open.{openRows}
-use Rattle.definitions.specs.Answer.{Answer, gives, refuses, InOrder}
-use Rattle.definitions.specs.Calls.{sheetRefusals, LoadAnswer, LoadSays}
+use Rattle.definitions.specs.Answer.{Answer, gives, refuses, Refusal, asksRoom, InOrder}
+use Rattle.definitions.specs.Calls.{bookRefusals, sheetRefusals, LoadAnswer, LoadDone, LoadSays}
 use Rattle.definitions.specs.Write.{written, WriteSays}
-use Rattle.samebook.proofs.Same.{stable, gives-refuses, wrote, same-book}
+use Rattle.definitions.proofs.Answers.{given-refused, in-order-map, lent-past, Keeps}
+use Rattle.definitions.proofs.Streams.{next-nothing, load-end}
+use Rattle.definitions.proofs.Words.{well-formed-words, marks-words}
+use Rattle.samebook.proofs.Same.{wrote, same-book}
 use Rattle.copying.specs.Copy.{CopySays}
 
--- a refusal gives nothing
-refuses-gives : {n k : ℕ} → refuses k ≡ gives (n ∷ []) → ⊥
-refuses-gives e = let z : _≡_ {A = ℕ} 0 1 = ap (λ (a : Answer). length (a .values)) e in omega arith
+-- ---- a holding judged by an empty stream
+
+-- an empty stream does nothing
+nothing-done : (t : Tree) → load t [] ≡ stopped 0 t
+nothing-done t = load-end t [] (next-nothing t)
+
+-- the number of a Load that is refused at once
+number-of : {answer : LoadAnswer} {k : ℕ} → answer ≡ record { bytes = 0; commands = 0; number = k } → answer .number ≡ k
+number-of e = ap (λ (a : LoadAnswer). a .number) e
+
+module _ (other sheet : List ℕ) {answer : LoadAnswer} {other′ sheet′ : List ℕ} where
+  -- where it is taken the number is 0 and both lists are as they were
+  done-number : LoadDone (treeOf other) (rowsOf sheet) (load (treeOf other) []) answer other′ sheet′ → answer .number ≡ 0
+  done-number done =
+      ap (λ (a : LoadAnswer). a .number) (done .answered) ∙ ap (λ (o : Outcome). o .number) (nothing-done (treeOf other))
+
+  done-same : WellFormed other → TrueSheet (treeOf other) sheet
+      → LoadDone (treeOf other) (rowsOf sheet) (load (treeOf other) []) answer other′ sheet′ → (other′ ≡ other) × (sheet′ ≡ sheet)
+  done-same formed filled done =
+      let still = rw (nothing-done (treeOf other)) at (done .done) in (
+        done .book ∙ ap (λ (o : Outcome). encode (o .tree)) (nothing-done (treeOf other)) ∙ well-formed-words other formed,
+        done .sheet ∙ ap encodeRows still ∙ marks-words sheet (filled .length) (filled .marks),
+      )
+
+  -- either way both lists are as they were
+  pub judged-same : LoadSays other sheet [] answer other′ sheet′ → (other′ ≡ other) × (sheet′ ≡ sheet)
+  judged-same (inl (wrong, (e, b, s))) = (b, s)
+  judged-same (inr (right, inl (torn, (e, b, s)))) = (b, s)
+  judged-same (inr (right, inr (formed, inl (untrue, (e, b, s))))) = (b, s)
+  judged-same (inr (right, inr (formed, inr (filled, done)))) = done-same formed filled done
+
+  -- a number that is not 0 is a refusal of this holding, whatever would come after
+  pub judged-refused : LoadSays other sheet [] answer other′ sheet′ → (answer .number ≡ 0 → ⊥) → (rest : List Refusal) (Refused : ℕ → Type 0)
+      (Else : Type 0) → Refused (answer .number) → InOrder (sheetRefusals other sheet rest) Refused Else
+  judged-refused (inl (wrong, (e, b, s))) nonzero rest Refused Else p = inl (wrong, subst Refused (number-of e) p)
+  judged-refused (inr (right, inl (torn, (e, b, s)))) nonzero rest Refused Else p = inr (right, inl (torn, subst Refused (number-of e) p))
+  judged-refused (inr (right, inr (formed, inl (untrue, (e, b, s))))) nonzero rest Refused Else p =
+      inr (right, inr (formed, inl (untrue, subst Refused (number-of e) p)))
+  judged-refused (inr (right, inr (formed, inr (filled, done)))) nonzero rest Refused Else p = absurd (nonzero (done-number done))
+
+  -- 0: it is a well-formed book with its true sheet
+  pub judged-true : LoadSays other sheet [] answer other′ sheet′ → answer .number ≡ 0 → WellFormed other × TrueSheet (treeOf other) sheet
+  judged-true (inl (wrong, (e, b, s))) zero = absurd (omega (arith, number-of e))
+  judged-true (inr (right, inl (torn, (e, b, s)))) zero = absurd (omega (arith, number-of e))
+  judged-true (inr (right, inr (formed, inl (untrue, (e, b, s))))) zero = absurd (omega (arith, number-of e))
+  judged-true (inr (right, inr (formed, inr (filled, done)))) zero = (formed, filled)
+
+-- ---- the copy
 
 -- a stream that is written stands within the output
 pub within : (book out : List ℕ) {n : ℕ} {out′ : List ℕ} → WriteSays book out (gives (n ∷ [])) out′ → n ≤ length out′
@@ -26,70 +75,47 @@ within book out {n} {out′} says =
     let (formed, long, bytes) = wrote book out out′ n says in
     omega (arith, ap length bytes, length-take n out′, long)
 
--- what Write refuses is refused, and nothing is changed
-pub not-written : (book out other sheet : List ℕ) {k : ℕ} {out′ : List ℕ} → WriteSays book out (refuses k) out′
-    → CopySays book out other sheet (refuses k) out′ other sheet
-not-written book out other sheet (inl (wrong, (e, same))) = inl (wrong, (e, same, refl, refl))
-not-written book out other sheet (inr (long, inl (torn, (e, same)))) = inr (long, inl (torn, (e, same, refl, refl)))
-not-written book out other sheet (inr (long, inr (formed, inl (short, (e, same))))) =
-    inr (long, inr (formed, inl (short, (e, same, refl, refl))))
-not-written book out other sheet (inr (long, inr (formed, inr (room, (e, bytes))))) = absurd (refuses-gives e)
+module _ (book out other sheet : List ℕ) where
+  -- what Write refuses, what a refused copy says, and what a copy leaves
+  abbrev writeRefusals : List Refusal
+  writeRefusals = bookRefusals book (asksRoom 15 (length (written (treeOf book))) (length out) ∷ [])
 
-module _ (book out other sheet : List ℕ) {n : ℕ} {out′ other′ sheet′ : List ℕ} {answer : LoadAnswer}
-    (write-says : WriteSays book out (gives (n ∷ [])) out′) (load-says : LoadSays other sheet (take n out′) answer other′ sheet′) where
-  -- what is said of the other holding once the stream is written
-  abbrev Elsewhere : Answer → Type 0
-  Elsewhere final =
-      InOrder (sheetRefusals other sheet [])
-      (λ k. (final ≡ refuses k) × (other′ ≡ other) × (sheet′ ≡ sheet))
-      ((final ≡ gives (length (written (treeOf book)) ∷ [])) × (other′ ≡ book) × (sheet′ ≡ encodeRows (openRows (treeOf book))))
+  abbrev Refused : Answer → List ℕ → List ℕ → List ℕ → ℕ → Type 0
+  Refused answer out′ other′ sheet′ k = (answer ≡ refuses k) × (out′ ≡ out) × (other′ ≡ other) × (sheet′ ≡ sheet)
 
-  after-write : {final : Answer} → WriteSays book out (gives (n ∷ [])) out′ → Elsewhere final
-      → CopySays book out other sheet final out′ other′ sheet′
-  after-write (inl (wrong, (e, same))) i = absurd (omega (arith, gives-refuses e))
-  after-write (inr (long, inl (torn, (e, same)))) i = absurd (omega (arith, gives-refuses e))
-  after-write (inr (long, inr (formed, inl (short, (e, same))))) i = absurd (omega (arith, gives-refuses e))
-  after-write (inr (long, inr (formed, inr (room, (e, bytes))))) i = inr (long, inr (formed, inr (room, (bytes, i))))
+  abbrev Copied : Answer → List ℕ → List ℕ → List ℕ → Type 0
+  Copied answer out′ other′ sheet′ =
+      (answer ≡ gives (length (written (treeOf book)) ∷ []))
+      × (out′ ≡ written (treeOf book) ++ drop (length (written (treeOf book))) out)
+      × (other′ ≡ book)
+      × (sheet′ ≡ encodeRows (openRows (treeOf book)))
 
-  -- the same book, where the other holding is one
-  same : WellFormed other → TrueSheet (treeOf other) sheet
-      → (answer .bytes ≡ n) × (answer .number ≡ 0) × (other′ ≡ book) × (sheet′ ≡ encodeRows (openRows (treeOf book)))
-  same formed true-sheet = same-book book out out′ other sheet other′ sheet′ n answer write-says formed true-sheet load-says
+  -- what Load refuses of the other holding is refused, and nothing is changed
+  pub not-judged : {answer : LoadAnswer} {other′ sheet′ : List ℕ} → LoadSays other sheet [] answer other′ sheet′ → (answer .number ≡ 0 → ⊥)
+      → CopySays book out other sheet (refuses (answer .number)) out other′ sheet′
+  not-judged {answer} {other′} {sheet′} says nonzero =
+      let (same, same-sheet) = judged-same other sheet says in
+      judged-refused other sheet says nonzero writeRefusals (Refused (refuses (answer .number)) out other′ sheet′)
+      (Copied (refuses (answer .number)) out other′ sheet′) (refl, refl, same, same-sheet)
 
-  number-of : {k : ℕ} → answer ≡ record { bytes = 0; commands = 0; number = k } → answer .number ≡ k
-  number-of e = ap (λ (a : LoadAnswer). a .number) e
+  module _ (formed : WellFormed other) (filled : TrueSheet (treeOf other) sheet) where
+    -- what Write refuses is refused, and nothing is changed
+    pub not-written : {k : ℕ} {out′ other′ sheet′ : List ℕ} → WriteSays book out (refuses k) out′ → other′ ≡ other → sheet′ ≡ sheet
+        → CopySays book out other sheet (refuses k) out′ other′ sheet′
+    not-written {k} {out′} {other′} {sheet′} says same same-sheet =
+        lent-past other sheet writeRefusals (Refused (refuses k) out′ other′ sheet′) (Copied (refuses k) out′ other′ sheet′) formed filled
+        (in-order-map writeRefusals {R = Keeps (refuses k) out out′} {S = Refused (refuses k) out′ other′ sheet′}
+        {E = Copied (refuses k) out′ other′ sheet′} (λ j (e, untouched). (e, untouched, same, same-sheet))
+        (λ done. absurd (given-refused (done .0) refl)) says)
 
-  -- what Load refuses is refused, with only the stream written
-  pub not-loaded : (answer .number ≡ 0 → ⊥) → CopySays book out other sheet (refuses (answer .number)) out′ other′ sheet′
-  not-loaded nonzero = after-write write-says (go load-says)
-    where
-      go : LoadSays other sheet (take n out′) answer other′ sheet′ → Elsewhere (refuses (answer .number))
-      go (inl (wrong, (e, b, s))) = inl (wrong, (ap refuses (number-of e), b, s))
-      go (inr (long, inl (torn, (e, b, s)))) = inr (long, inl (torn, (ap refuses (number-of e), b, s)))
-      go (inr (long, inr (formed, inl (untrue, (e, b, s))))) = inr (long, inr (formed, inl (untrue, (ap refuses (number-of e), b, s))))
-      go (inr (long, inr (formed, inr (true-sheet, done)))) = absurd (formed (λ f. true-sheet (λ t. nonzero (same f t .1))))
-
-  -- else the other book is the same
-  pub copied : answer .number ≡ 0 → CopySays book out other sheet (gives (n ∷ [])) out′ other′ sheet′
-  copied zero = after-write write-says (go load-says)
-    where
-      go : LoadSays other sheet (take n out′) answer other′ sheet′ → Elsewhere (gives (n ∷ []))
-      go (inl (wrong, (e, b, s))) = absurd (omega (arith, number-of e))
-      go (inr (long, inl (torn, (e, b, s)))) = absurd (omega (arith, number-of e))
-      go (inr (long, inr (formed, inl (untrue, (e, b, s))))) = absurd (omega (arith, number-of e))
-      go (inr (long, inr (formed, inr (true-sheet, done)))) =
-          inr (
-            long,
-            inr (
-              formed,
-              inr (
-                true-sheet,
-                (
-                  ap (λ (k : ℕ). gives (k ∷ [])) (wrote book out out′ n write-says .1),
-                  stable (List-discrete ℕ-discrete other′ book) (λ off. formed (λ f. true-sheet (λ t. off (same f t .2)))),
-                  stable (List-discrete ℕ-discrete sheet′ (encodeRows (openRows (treeOf book))))
-                      (λ off. formed (λ f. true-sheet (λ t. off (same f t .3)))),
-                ),
-              ),
-            ),
-          )
+    -- else the other book is the same
+    pub copied : {n : ℕ} {out′ judged judged-sheet other′ sheet′ : List ℕ} {answer : LoadAnswer} → judged ≡ other → judged-sheet ≡ sheet
+        → WriteSays book out (gives (n ∷ [])) out′ → LoadSays judged judged-sheet (take n out′) answer other′ sheet′
+        → CopySays book out other sheet (gives (n ∷ [])) out′ other′ sheet′
+    copied {n} {out′} {other′ = other′} {sheet′ = sheet′} {answer = answer} same-other same-sheet says load-says =
+        let there : LoadSays other sheet (take n out′) answer other′ sheet′ = rw (same-other, same-sheet) at load-says in
+        let same = same-book book out out′ other sheet other′ sheet′ n answer says formed filled there in
+        lent-past other sheet writeRefusals (Refused (gives (n ∷ [])) out′ other′ sheet′) (Copied (gives (n ∷ [])) out′ other′ sheet′) formed filled
+        (in-order-map writeRefusals {R = Keeps (gives (n ∷ [])) out out′} {S = Refused (gives (n ∷ [])) out′ other′ sheet′}
+        {E = Copied (gives (n ∷ [])) out′ other′ sheet′} (λ j (e, untouched). absurd (given-refused refl e))
+        (λ (given, bytes). (given, bytes, same .2, same .3)) says)

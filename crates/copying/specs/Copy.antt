@@ -2,24 +2,22 @@
 -- book there.
 use mathlib.Core.Path.{_≡_}
 use mathlib.Core.List.{List, [], _∷_, _++_}
-use Prim.Native.Nat.{ℕ, _<_}
+use Prim.Native.Nat.{ℕ}
 use lib.ListN.{length, drop}
 use Rattle.definitions.specs.Book.{treeOf}
 use Rattle.definitions.specs.Sheet.{encodeRows}
 use Rattle.definitions.specs.Open.{openRows}
-use Rattle.definitions.specs.Answer.{Answer, gives, refuses, refuse, InOrder}
+use Rattle.definitions.specs.Answer.{Answer, gives, refuses, asksRoom, InOrder}
 use Rattle.definitions.specs.Calls.{bookRefusals, sheetRefusals}
 use Rattle.definitions.specs.Write.{written}
 
--- It refuses what Write refuses, with nothing changed, and then what Load refuses of the other holding, with only the stream written. Else
--- the stream is taken whole: the other book has the same words, and every machine in use is marked in its sheet, all else blank.
+-- It refuses what Load refuses of the other holding (1, 2, 3), then what Write refuses (1, 2, 15), with nothing changed. Else the stream
+-- stands at the front of the output, the other book has the same words, and every machine in use is marked in its sheet, all else blank.
 abbrev pub CopySays : List ℕ → List ℕ → List ℕ → List ℕ → Answer → List ℕ → List ℕ → List ℕ → Type 0
 CopySays book out other sheet answer out′ other′ sheet′ =
-    InOrder (bookRefusals book (refuse 15 (length out < length (written (treeOf book))) ∷ []))
+    InOrder (sheetRefusals other sheet (bookRefusals book (asksRoom 15 (length (written (treeOf book))) (length out) ∷ [])))
     (λ k. (answer ≡ refuses k) × (out′ ≡ out) × (other′ ≡ other) × (sheet′ ≡ sheet))
-    ((out′ ≡ written (treeOf book) ++ drop (length (written (treeOf book))) out)
-    × InOrder (sheetRefusals other sheet [])
-    (λ k. (answer ≡ refuses k) × (other′ ≡ other) × (sheet′ ≡ sheet))
     ((answer ≡ gives (length (written (treeOf book)) ∷ []))
+    × (out′ ≡ written (treeOf book) ++ drop (length (written (treeOf book))) out)
     × (other′ ≡ book)
-    × (sheet′ ≡ encodeRows (openRows (treeOf book)))))
+    × (sheet′ ≡ encodeRows (openRows (treeOf book))))

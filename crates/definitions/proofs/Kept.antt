@@ -528,16 +528,21 @@ pair-small bytes h i =
     omega arith
 
 -- a command whose operands are bytes brings a cost in range
-pub decode-range : (op : ℕ) (bytes : List ℕ) → Bytes bytes → CommandInRange (decode op bytes)
+abbrev pub DecodedInRange : Option Command → Type 0
+DecodedInRange none = Unit
+DecodedInRange (some c) = CommandInRange c
+
+pub decode-range : (op : ℕ) (bytes : List ℕ) → Bytes bytes → DecodedInRange (decode op bytes)
 unfolding decode
 decode-range op bytes h =
-    let W = CommandInRange in
+    let W = DecodedInRange in
     either-way W (eqb op 0x10) tt
     (either-way W (eqb op 0x11) tt
     (either-way W (eqb op 0x12) tt
     (either-way W (eqb op 0x13) tt
     (either-way W (eqb op 0x14) (pair-small bytes h 5)
-    (either-way W (eqb op 0x15) tt (either-way W (eqb op 0x16) tt (either-way W (eqb op 0x17) tt tt)))))))
+    (either-way W (eqb op 0x15) tt
+    (either-way W (eqb op 0x16) tt (either-way W (eqb op 0x17) tt (either-way W (eqb op 0x18) tt tt))))))))
 
 -- the rest of a list of bytes is one
 pub drop-bytes : (size : ℕ) (bytes : List ℕ) → Bytes bytes → Bytes (drop size bytes)
@@ -549,7 +554,7 @@ drop-bytes (suc n) (b ∷ rest) h = drop-bytes n rest (h .1)
 pub next-range : (t : Tree) (bytes : List ℕ) {c : Command} {size : ℕ} → Bytes bytes → next t bytes ≡ taken c size → CommandInRange c
 next-range t bytes h e =
     let r = read-taken bytes (next-taken t bytes e .0) in
-    rw (r .command) (decode-range (r .opcode) (r .rest) ((rw (r .split) at h) .1))
+    rw (r .command) at (decode-range (r .opcode) (r .rest) ((rw (r .split) at h) .1))
 
 -- a stream of bytes leaves a sound tree sound
 pub load-sound : {t : Tree} → Sound t → (bytes : List ℕ) → Bytes bytes → Sound (load t bytes .tree)

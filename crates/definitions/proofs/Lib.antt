@@ -18,3 +18,4 @@ pub mod Kept
 pub mod Opened
 pub mod Tests
 pub mod Mast
+pub mod Answers

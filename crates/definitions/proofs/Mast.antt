@@ -169,12 +169,12 @@ step-11-by-1 : StepSays (encode mastTree) 11 1 (gives (2 ∷ 3 ∷ []))
 unfolding computing
 step-11-by-1 =
     step-says mastTree sound 11 1 (gives (2 ∷ 3 ∷ [])) (omega arith) (omega arith) {p = 1} refl
-    (inr (λ refined. refined refl, inr (λ stops. none-some stops refl, (record { node = 2; cost = 3 }, refl, refl))))
+    (inr (refl, inr ((_, refl), (record { node = 2; cost = 3 }, refl, refl))))
 
 step-11-by-0 : StepSays (encode mastTree) 11 0 (refuses 17)
 unfolding computing
 step-11-by-0 =
-    step-says mastTree sound 11 0 (refuses 17) (omega arith) (omega arith) {p = 1} refl (inr (λ refined. refined refl, inl (refl, refl)))
+    step-says mastTree sound 11 0 (refuses 17) (omega arith) (omega arith) {p = 1} refl (inr (refl, inl (refl, refl)))
 
 step-1 : (x : ℕ) → x < commands → StepSays (encode mastTree) 1 x (refuses 14)
 unfolding computing

@@ -10,8 +10,7 @@ use borrow.Author.Tests.{ltb-true, lt-ltb}
 use Rattle.definitions.specs.Tree.{Transition, Sound}
 use Rattle.definitions.specs.Open.{freshTree, ladderMachines, ladderNodes, given, ladderBelow, ladderHolder, ladderTransition, ladderTree}
 use Rattle.definitions.specs.Open.{Opening, fresh, ladder, openTree}
-use Rattle.definitions.proofs.Options.{none-some, some-same, equal-or-not}
-use Rattle.definitions.proofs.Simple.{and-true}
+use Rattle.definitions.proofs.Options.{none-some, some-same, equal-or-not, and-true}
 use Rattle.definitions.proofs.Path.{Deep, at-root, under}
 use Rattle.definitions.proofs.Kept.{single-sound, deep-climbs}
 

@@ -1,13 +1,13 @@
 -- Laws of values that may be absent, and of functions changed at one number. Assumes nothing.
 use mathlib.Core.Path.{_≡_, refl, ap}
 use mathlib.Core.Logic.{_⊎_, inl, inr}
-use mathlib.Core.Bool.{Bool, true, false}
+use mathlib.Core.Bool.{Bool, true, false, _&&_}
 use mathlib.Core.Option.{Option, none, some}
 use Prim.Native.Nat.{ℕ, zero, suc}
 use native.Mathlib.Omega.{arith}
 use lib.Dec.{eqb}
 use borrow.Author.Tests.{eqb-true, eqb-false, eq-eqb, ne-eqb}
-use Rattle.definitions.specs.Basics.{_>>=_, iterate, isSome, isAt, put}
+use Rattle.definitions.specs.Basics.{_>>=_, iterate, isSome, isAt, put, Least}
 
 -- what a value bound to another was bound from
 pub bind-some : {A B : Type 0} (o : Option A) (f : A → Option B) {b : B} → (o >>= f) ≡ some b → (a : A) × (o ≡ some a) × (f a ≡ some b)
@@ -30,6 +30,11 @@ decided false = inr refl
 
 pub true-false : {b : Bool} → b ≡ true → b ≡ false → ⊥
 true-false p q = let z : _≡_ {A = ℕ} 0 1 = cc in omega arith
+
+-- two tests that pass together both pass
+pub and-true : (a b : Bool) → (a && b) ≡ true → (a ≡ true) × (b ≡ true)
+and-true true b e = (refl, e)
+and-true false b e = absurd (true-false e refl)
 
 -- two numbers are equal or not
 pub equal-or-not : (a b : ℕ) → (a ≡ b) ⊎ (a ≡ b → ⊥)
@@ -77,3 +82,11 @@ isSome-true (some a) e = (a, refl)
 pub isSome-false : {A : Type 0} (o : Option A) → isSome o ≡ false → o ≡ none
 isSome-false none e = refl
 isSome-false (some a) e = absurd (true-false refl e)
+
+-- two properties of the same numbers have the same least number
+pub least-unique : (P Q : ℕ → Type 0) → ((c : ℕ) → P c → Q c) → ((c : ℕ) → Q c → P c) → (a b : Option ℕ) → Least P a → Least Q b → a ≡ b
+least-unique P Q to from none none la lb = refl
+least-unique P Q to from none (some d) la lb = absurd (la d (from d (lb .0)))
+least-unique P Q to from (some c) none la lb = absurd (lb c (to c (la .0)))
+least-unique P Q to from (some c) (some d) la lb =
+    ap {B = Option ℕ} some (omega (arith, la .1 d (from d (lb .0)), lb .1 c (to c (la .0))))

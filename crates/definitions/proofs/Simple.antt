@@ -16,7 +16,7 @@ use Rattle.definitions.specs.Limits.{nodes, largestCost, largestPlanCost
 use Rattle.definitions.specs.Tree.{Tree, Transition, Sound, isState, states, path, pathF, over}
 use Rattle.definitions.specs.Step.{enter, startState, counting, leaving, leavingOf, Climb, found, passed, past, firstOf, look, climb, Arrival, follow, stepIn, step, runIn, Moves, passes}
 use Rattle.definitions.specs.Costs.{LeastCost, ExitCost}
-use Rattle.definitions.proofs.Options.{bind-some, none-some, some-same, true-false, equal-or-not, isAt-some, isSome-true}
+use Rattle.definitions.proofs.Options.{bind-some, none-some, some-same, true-false, and-true, equal-or-not, isAt-some, isSome-true}
 use Rattle.definitions.proofs.Path.{Deep, at-root, under, root-holder, deep, path-on, enter-enters, enters-state, Inside, own, deeper}
 use Rattle.definitions.proofs.Runs.{onto, run-first, run-cons, run-nil}
 use Rattle.definitions.proofs.Exits.{ExitParts, exit-parts, parts-exit}
@@ -108,11 +108,6 @@ simple-run t top s (x ∷ xs) a e =
     (cut t top s (first .mid .node) ys b runs distinct))
 
 -- ---- counting
-
--- two tests that pass together both pass
-pub and-true : (a b : Bool) → (a && b) ≡ true → (a ≡ true) × (b ≡ true)
-and-true true b e = (refl, e)
-and-true false b e = absurd (true-false e refl)
 
 -- a test that passes wherever another does counts no less: at one number, and below a limit
 count-one : (a b : Bool) → (a ≡ true → b ≡ true) → cond {A = ℕ} a 1 0 ≤ cond b 1 0

@@ -2,19 +2,19 @@
 -- nobody looks at the fuel of `load`. Assumes nothing.
 use mathlib.Core.Path.{_≡_, refl, ap, _∙_}
 use mathlib.Core.Logic.{_⊎_, inl, inr, ⊎-elim}
-use mathlib.Core.Bool.{Bool, true, false}
+use mathlib.Core.Bool.{Bool, true, false, cond}
 use mathlib.Core.Option.{Option, none, some}
 use mathlib.Core.List.{List, [], _∷_}
 use Prim.Native.Nat.{ℕ, zero, suc, _≤_, _<_}
 use native.Mathlib.Omega.{arith}
-use lib.Dec.{leb}
+use lib.Dec.{eqb, leb}
 use lib.ListN.{length, drop, length-drop}
 use borrow.Author.Tests.{leb-true, leb-false, le-leb, lt-leb, ne-eqb}
 use Rattle.definitions.specs.Tree.{Tree}
 use Rattle.definitions.specs.Stream.{Command, operandLength, decode, Next, ended, taken, refused, readNext}
 use Rattle.definitions.specs.Edit.{refusal, treeAfter}
 use Rattle.definitions.specs.Load.{next, Outcome, stopped, after, onward, loadF, load}
-use Rattle.definitions.proofs.Options.{equal-or-not}
+use Rattle.definitions.proofs.Options.{none-some, equal-or-not}
 
 -- the end, a command that is taken and a refusal are three things: none is another
 taken-refused : {x : Next} {c : Command} {size k : ℕ} → x ≡ taken c size → x ≡ refused k → ⊥
@@ -27,6 +27,38 @@ pub ended-refused : {x : Next} {k : ℕ} → x ≡ ended → x ≡ refused k →
 ended-refused p q = let z : _≡_ {A = ℕ} 0 1 = cc in omega arith
 
 -- ---- the next command as it is written
+
+-- what holds of two values and of two others holds where one test picks from both
+either-both : {A B : Type 0} (P : A → B → Type 0) (test : Bool) {x y : A} {u v : B} → P x u → P y v → P (cond test x y) (cond test u v)
+either-both P true p q = p
+either-both P false p q = q
+
+-- an opcode that has operands has a command, and one that has none is the opcode of none
+abbrev Decodes : Option ℕ → Option Command → Type 0
+Decodes operands command =
+    ((k : ℕ) → operands ≡ some k → (c : Command) × (command ≡ some c)) × (operands ≡ none → command ≡ none)
+
+decodes : (k : ℕ) (c : Command) → Decodes (some k) (some c)
+decodes k c = (λ j e. (c, refl), λ e. absurd (none-some e refl))
+
+opcode-decodes : (op : ℕ) (bytes : List ℕ) → Decodes (operandLength op) (decode op bytes)
+unfolding operandLength decode
+opcode-decodes op bytes =
+    either-both Decodes (eqb op 0x10) (decodes _ _)
+    (either-both Decodes (eqb op 0x11) (decodes _ _)
+    (either-both Decodes (eqb op 0x12) (decodes _ _)
+    (either-both Decodes (eqb op 0x13) (decodes _ _)
+    (either-both Decodes (eqb op 0x14) (decodes _ _)
+    (either-both Decodes (eqb op 0x15) (decodes _ _)
+    (either-both Decodes (eqb op 0x16) (decodes _ _)
+    (either-both Decodes (eqb op 0x17) (decodes _ _)
+    (either-both Decodes (eqb op 0x18) (decodes _ _) (λ j e. absurd (none-some refl e), λ e. refl)))))))))
+
+pub known-decodes : (op : ℕ) (bytes : List ℕ) {k : ℕ} → operandLength op ≡ some k → (c : Command) × (decode op bytes ≡ some c)
+known-decodes op bytes {k} = opcode-decodes op bytes .0 k
+
+pub unknown-undecoded : (op : ℕ) (bytes : List ℕ) → operandLength op ≡ none → decode op bytes ≡ none
+unknown-undecoded op bytes = opcode-decodes op bytes .1
 
 -- an empty stream is at its end
 pub read-nothing : readNext [] ≡ ended
@@ -41,21 +73,21 @@ read-unknown op rest unknown = rw unknown
 -- a command that is cut short is refused
 pub read-cut : (op : ℕ) (rest : List ℕ) {k : ℕ} → operandLength op ≡ some k → length rest < k → readNext (op ∷ rest) ≡ refused 4
 unfolding readNext
-read-cut op rest {k} known short = rw (known, lt-leb k (length rest) short)
+read-cut op rest {k} known short = rw (known, known-decodes op rest known .1, lt-leb k (length rest) short)
 
 -- a command with all its operands is read
-pub read-whole : (op : ℕ) (rest : List ℕ) {k : ℕ} → operandLength op ≡ some k → k ≤ length rest
-    → readNext (op ∷ rest) ≡ taken (decode op rest) (suc k)
+pub read-whole : (op : ℕ) (rest : List ℕ) {k : ℕ} {c : Command} → operandLength op ≡ some k → k ≤ length rest → decode op rest ≡ some c
+    → readNext (op ∷ rest) ≡ taken c (suc k)
 unfolding readNext
-read-whole op rest {k} known there = rw (known, le-leb k (length rest) there)
+read-whole op rest {k} known there says = rw (known, says, le-leb k (length rest) there)
 
 -- what may stand next
 pub data Reads : List ℕ → Next → Type 0 where
   nothing : Reads [] ended
   unknown : {op : ℕ} {rest : List ℕ} → operandLength op ≡ none → Reads (op ∷ rest) (refused 5)
   cut : {op : ℕ} {rest : List ℕ} {k : ℕ} → operandLength op ≡ some k → length rest < k → Reads (op ∷ rest) (refused 4)
-  whole : {op : ℕ} {rest : List ℕ} {k : ℕ} → operandLength op ≡ some k → k ≤ length rest
-      → Reads (op ∷ rest) (taken (decode op rest) (suc k))
+  whole : {op : ℕ} {rest : List ℕ} {k : ℕ} {c : Command} → operandLength op ≡ some k → k ≤ length rest → decode op rest ≡ some c
+      → Reads (op ∷ rest) (taken c (suc k))
 
 -- what stands next is one of these
 pub reads : (bytes : List ℕ) → Reads bytes (readNext bytes)
@@ -63,7 +95,10 @@ reads [] = rw read-nothing nothing
 reads (op ∷ rest) = go (operandLength op) refl
   where
     fits : (k : ℕ) → operandLength op ≡ some k → (b : Bool) → leb k (length rest) ≡ b → Reads (op ∷ rest) (readNext (op ∷ rest))
-    fits k known true e = let there : k ≤ length rest = leb-true k (length rest) e in rw (read-whole op rest known there) (whole known there)
+    fits k known true e =
+        let there : k ≤ length rest = leb-true k (length rest) e in
+        let (c, says) = known-decodes op rest known in
+        rw (read-whole op rest known there says) (whole known there says)
     fits k known false e = let short : length rest < k = leb-false k (length rest) e in rw (read-cut op rest known short) (cut known short)
 
     go : (o : Option ℕ) → operandLength op ≡ o → Reads (op ∷ rest) (readNext (op ∷ rest))
@@ -78,7 +113,7 @@ pub record Read (bytes : List ℕ) (c : Command) (size : ℕ) : Type 0 where
   pub operands : ℕ
   pub known : operandLength opcode ≡ some operands
   pub there : operands ≤ length rest
-  pub command : c ≡ decode opcode rest
+  pub command : decode opcode rest ≡ some c
   pub counted : size ≡ suc operands
 
 -- every command that is taken as it is written is read so
@@ -89,7 +124,7 @@ read-taken bytes {c} {size} e = go (reads bytes) e
     go nothing e = absurd (taken-ended e refl)
     go (unknown u) e = absurd (taken-refused e refl)
     go (cut known short) e = absurd (taken-refused e refl)
-    go (whole {op = op} {rest = rest} {k = k} known there) e =
+    go (whole {op = op} {rest = rest} {k = k} known there says) e =
         record { opcode = op; rest = rest; split = refl; operands = k; known = known; there = there; command = cc; counted = cc }
 
 -- a command that is read takes one byte at least, and none that is not there
@@ -106,7 +141,7 @@ read-refused bytes {k} e = go (reads bytes) e
     go nothing e = absurd (ended-refused refl e)
     go (unknown u) e = inl (cc)
     go (cut known short) e = inr (cc)
-    go (whole known there) e = absurd (taken-refused refl e)
+    go (whole known there says) e = absurd (taken-refused refl e)
 
 -- only an empty stream is at its end
 pub read-ended : (bytes : List ℕ) → readNext bytes ≡ ended → bytes ≡ []
@@ -116,7 +151,7 @@ read-ended bytes e = go (reads bytes) e
     go nothing e = refl
     go (unknown u) e = absurd (ended-refused e refl)
     go (cut known short) e = absurd (ended-refused e refl)
-    go (whole known there) e = absurd (taken-ended refl e)
+    go (whole known there says) e = absurd (taken-ended refl e)
 
 -- ---- the next command on a tree
 

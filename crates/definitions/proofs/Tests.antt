@@ -19,16 +19,16 @@ use Rattle.definitions.specs.Costs.{LeastCost, ExitCost}
 use Rattle.definitions.specs.Book.{under, encode}
 use Rattle.definitions.specs.Sheet.{Rows, encodeRows}
 use Rattle.definitions.specs.Truth.{nodeExit, move, BlankMachine, BlankNode, BlankRule, Named, Ended, TrueRows, TrueSheet}
-use Rattle.definitions.specs.Answer.{Answer, gives, refuses, refuse, InOrder}
+use Rattle.definitions.specs.Answer.{Answer, gives, refuses, asks, wants, InOrder}
 use Rattle.definitions.specs.Calls.{StepSays, Plan, PlanSays}
-use Rattle.definitions.proofs.Options.{bind-some, none-some, some-same, true-false, decided, equal-or-not}
+use Rattle.definitions.proofs.Options.{bind-some, none-some, some-same, true-false, decided, equal-or-not, and-true}
 use Rattle.definitions.proofs.Options.{isAt-true, isSome-true, isSome-false}
 use Rattle.definitions.proofs.Lists.{no-value}
 use Rattle.definitions.proofs.Path.{enter-enters, enters-state, counting-range, climb-found}
 use Rattle.definitions.proofs.Runs.{Bounded, bounded-run}
 use Rattle.definitions.proofs.Local.{Relaxed, Attained, move-parts}
 use Rattle.definitions.proofs.LocalTruth.{local-true}
-use Rattle.definitions.proofs.Simple.{and-true, step-stepped}
+use Rattle.definitions.proofs.Simple.{step-stepped}
 use Rattle.definitions.proofs.Words.{under-some, encode-length, treeOf-encode, encode-well-formed}
 use Rattle.definitions.proofs.Words.{encodeRows-length, InRange, words-marks, rowsOf-encodeRows}
 
@@ -171,7 +171,7 @@ rows-sheet t r range holds =
 -- what is left of Step's answer for a node and a command in range, the node in use
 abbrev pub StepOn : Tree → ℕ → ℕ → Answer → Type 0
 StepOn t n x answer =
-    InOrder (refuse 14 (t .below n ≡ none → ⊥) ∷ refuse 17 (step t n x ≡ none) ∷ []) (λ k. answer ≡ refuses k)
+    InOrder (asks 14 (t .below n ≡ none) ∷ wants 17 (step t n x) ∷ []) (λ k. answer ≡ refuses k)
     ((a : Arrival) × (step t n x ≡ some a) × (answer ≡ gives (a .node ∷ a .cost ∷ [])))
 
 -- it is Step's answer on the book of a sound tree
@@ -179,13 +179,7 @@ pub step-says : (t : Tree) → Sound t → (n x : ℕ) (answer : Answer) → n <
     → StepOn t n x answer → StepSays (encode t) n x answer
 step-says t s n x answer small range own rest =
     rw (treeOf-encode t s)
-    (inr (
-      λ wrong. wrong (encode-length t),
-      inr (
-        λ bad. bad (encode-well-formed t s),
-        inr (λ out. out (small, range), inr (λ unused. none-some unused own, rest)),
-      ),
-    ))
+    (inr (encode-length t, inr (encode-well-formed t s, inr ((small, range), inr ((_, own), rest)))))
 
 -- a state is a node in use that holds no machine
 pub state-parts : (t : Tree) (n : ℕ) → isState t n ≡ true → (p : ℕ) × (t .owner n ≡ some p) × (t .below n ≡ none)
@@ -203,19 +197,16 @@ plan-refused t s r range fresh holds a b state-a state-b no-way buffer room =
     let (q, own-b, plain-b) = state-parts t b state-b in
     rw (treeOf-encode t s, rowsOf-encodeRows r range)
     (inr (
-      ⊎-elim (λ wrong. wrong (encode-length t)) (λ wrong. wrong (encodeRows-length r)),
+      (encode-length t, encodeRows-length r),
       inr (
-        λ bad. bad (encode-well-formed t s),
+        encode-well-formed t s,
         inr (
-          λ bad. bad (rows-sheet t r range holds),
+          rows-sheet t r range holds,
           inr (
-            λ marked. true-false (marked .1) (fresh (marked .0)),
+            fresh,
             inr (
-              λ out. out (s .node-range a p own-a, s .node-range b q own-b),
-              inr (
-                ⊎-elim (λ unused. none-some unused own-a) (λ unused. none-some unused own-b),
-                inr (λ refined. refined (plain-a, plain-b), inr (λ short. omega arith, inl (no-way, (refl, refl)))),
-              ),
+              (s .node-range a p own-a, s .node-range b q own-b),
+              inr (((p, own-a), (q, own-b)), inr ((plain-a, plain-b), inr (room, inl (no-way, (refl, refl))))),
             ),
           ),
         ),

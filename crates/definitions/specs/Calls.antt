@@ -1,14 +1,14 @@
 -- Document 01, "Opening", "Loading a stream" and "Exit, step and plan": what each call answers and leaves, on every input.
 use mathlib.Core.Path.{_≡_}
 use mathlib.Core.Logic.{_⊎_}
-use mathlib.Core.Bool.{true}
+use mathlib.Core.Bool.{true, false}
 use mathlib.Core.Option.{none, some}
 use mathlib.Core.List.{List, [], _∷_, _++_}
 use Prim.Native.Nat.{ℕ, _-_, _<_}
 use lib.ListN.{length, drop}
 use Rattle.definitions.specs.Basics.{Distinct}
 use Rattle.definitions.specs.Limits.{machines, nodes, commands, bookLength, sheetLength}
-use Rattle.definitions.specs.Tree.{Tree, states}
+use Rattle.definitions.specs.Tree.{Tree, UsedNode, states}
 use Rattle.definitions.specs.Step.{Arrival, step, Moves, passes}
 use Rattle.definitions.specs.Costs.{LeastCost, ExitCost}
 use Rattle.definitions.specs.Book.{encode, treeOf, WellFormed}
@@ -16,27 +16,24 @@ use Rattle.definitions.specs.Sheet.{Rows, rowsOf, encodeRows}
 use Rattle.definitions.specs.Truth.{TrueSheet}
 use Rattle.definitions.specs.Load.{Outcome, load, RowsAfterAll}
 use Rattle.definitions.specs.Open.{openRows}
-use Rattle.definitions.specs.Answer.{Answer, gives, refuses, Refusal, refuse, InOrder}
+use Rattle.definitions.specs.Answer.{Answer, gives, refuses, Refusal, refuse, asks, wants, wantsLeast, asksRoom, InOrder}
 
--- a wrong length
-abbrev pub WrongBookLength : List ℕ → Type 0
-WrongBookLength book = length book ≡ bookLength → ⊥
-
-abbrev pub WrongLength : List ℕ → List ℕ → Type 0
-WrongLength book sheet = WrongBookLength book ⊎ (length sheet ≡ sheetLength → ⊥)
+-- both lists have as many words as a book and a sheet have
+abbrev pub RightLengths : List ℕ → List ℕ → Type 0
+RightLengths book sheet = (length book ≡ bookLength) × (length sheet ≡ sheetLength)
 
 -- the refusals that calls begin with: 1 (a wrong length), 2 (book not well formed) and, where a sheet is lent, 3 (sheet not true)
 abbrev pub bookRefusals : List ℕ → List Refusal → List Refusal
-bookRefusals book rest = refuse 1 (WrongBookLength book) ∷ refuse 2 (WellFormed book → ⊥) ∷ rest
+bookRefusals book rest = asks 1 (length book ≡ bookLength) ∷ asks 2 (WellFormed book) ∷ rest
 
 abbrev pub sheetRefusals : List ℕ → List ℕ → List Refusal → List Refusal
 sheetRefusals book sheet rest =
-    refuse 1 (WrongLength book sheet) ∷ refuse 2 (WellFormed book → ⊥) ∷ refuse 3 (TrueSheet (treeOf book) sheet → ⊥) ∷ rest
+    asks 1 (RightLengths book sheet) ∷ asks 2 (WellFormed book) ∷ asks 3 (TrueSheet (treeOf book) sheet) ∷ rest
 
 -- Open fresh and Open ladder, with the tree that is opened: the number, and both lists after the call
 abbrev pub OpenSays : Tree → List ℕ → List ℕ → ℕ → List ℕ → List ℕ → Type 0
 OpenSays t book sheet number book′ sheet′ =
-    InOrder (refuse 1 (WrongLength book sheet) ∷ [])
+    InOrder (asks 1 (RightLengths book sheet) ∷ [])
     (λ k. (number ≡ k) × (book′ ≡ book) × (sheet′ ≡ sheet))
     ((number ≡ 0) × (book′ ≡ encode t) × (sheet′ ≡ encodeRows (openRows t)))
 
@@ -63,28 +60,28 @@ LoadSays book sheet stream answer book′ sheet′ =
 
 -- Exit: the exit cost of machine m for x. It refuses also 6 (number out of range), 7 (not in use), 13 (that machine marked),
 -- 16 (no way)
+abbrev pub exitRefusals : Tree → Rows → ℕ → ℕ → List Refusal
+exitRefusals t r m x =
+    asks 6 ((m < machines) × (x < commands))
+    ∷ wants 7 (t .start m)
+    ∷ refuse 13 (r .stale m ≡ true) (r .stale m ≡ false)
+    ∷ wantsLeast 16 (ExitCost t m x)
+    ∷ []
+
 abbrev pub ExitSays : List ℕ → List ℕ → ℕ → ℕ → Answer → Type 0
 ExitSays book sheet m x answer =
-    InOrder
-    (sheetRefusals book sheet
-    (refuse 6 ((m < machines) × (x < commands) → ⊥)
-    ∷ refuse 7 (treeOf book .start m ≡ none)
-    ∷ refuse 13 (rowsOf sheet .stale m ≡ true)
-    ∷ refuse 16 (ExitCost (treeOf book) m x none)
-    ∷ []))
+    InOrder (sheetRefusals book sheet (exitRefusals (treeOf book) (rowsOf sheet) m x))
     (λ k. answer ≡ refuses k)
     ((c : ℕ) × ExitCost (treeOf book) m x (some c) × (answer ≡ gives (c ∷ [])))
 
 -- Step: the state and the cost. It refuses also 6, 7, 14 (node not plain), 17 (the station stops)
+abbrev pub stepRefusals : Tree → ℕ → ℕ → List Refusal
+stepRefusals t s x =
+    asks 6 ((s < nodes) × (x < commands)) ∷ wants 7 (t .owner s) ∷ asks 14 (t .below s ≡ none) ∷ wants 17 (step t s x) ∷ []
+
 abbrev pub StepSays : List ℕ → ℕ → ℕ → Answer → Type 0
 StepSays book s x answer =
-    InOrder
-    (bookRefusals book
-    (refuse 6 ((s < nodes) × (x < commands) → ⊥)
-    ∷ refuse 7 (treeOf book .owner s ≡ none)
-    ∷ refuse 14 (treeOf book .below s ≡ none → ⊥)
-    ∷ refuse 17 (step (treeOf book) s x ≡ none)
-    ∷ []))
+    InOrder (bookRefusals book (stepRefusals (treeOf book) s x))
     (λ k. answer ≡ refuses k)
     ((a : Arrival) × (step (treeOf book) s x ≡ some a) × (answer ≡ gives (a .node ∷ a .cost ∷ [])))
 
@@ -97,23 +94,28 @@ pub record Plan (t : Tree) (a b cost : ℕ) (list : List ℕ) : Type 0 where
 -- the refusals that calls between two states share: 6, 7, 14
 abbrev pub stateRefusals : Tree → ℕ → ℕ → List Refusal → List Refusal
 stateRefusals t a b rest =
-    refuse 6 ((a < nodes) × (b < nodes) → ⊥)
-    ∷ refuse 7 ((t .owner a ≡ none) ⊎ (t .owner b ≡ none))
-    ∷ refuse 14 ((t .below a ≡ none) × (t .below b ≡ none) → ⊥)
+    asks 6 ((a < nodes) × (b < nodes))
+    ∷ refuse 7 ((t .owner a ≡ none) ⊎ (t .owner b ≡ none)) (UsedNode t a × UsedNode t b)
+    ∷ asks 14 ((t .below a ≡ none) × (t .below b ≡ none))
     ∷ rest
 
 -- what Plan refuses on a tree and its rows, with room for so many commands: 13 (any machine marked), 6, 7, 14,
 -- 15 (buffer shorter than states less 1), 16 (no way)
 abbrev pub planRefusals : Tree → Rows → ℕ → ℕ → ℕ → List Refusal
 planRefusals t r a b room =
-    refuse 13 ((m : ℕ) × (r .stale m ≡ true))
-    ∷ stateRefusals t a b (refuse 15 (room < states t - 1) ∷ refuse 16 (LeastCost t a b none) ∷ [])
+    refuse 13 ((m : ℕ) × (r .stale m ≡ true)) ((m : ℕ) → r .stale m ≡ false)
+    ∷ stateRefusals t a b (asksRoom 15 (states t - 1) room ∷ wantsLeast 16 (LeastCost t a b) ∷ [])
 
--- Plan: cost and count, and the commands at the front of the plan buffer, later bytes untouched
+-- a plan is given: cost and count, and the commands at the front of the plan buffer, later bytes untouched
+abbrev pub GivesPlan : Tree → ℕ → ℕ → List ℕ → Answer → List ℕ → Type 0
+GivesPlan t a b buffer answer buffer′ =
+    (cost : ℕ) × (list : List ℕ) × Plan t a b cost list
+    × (answer ≡ gives (cost ∷ length list ∷ []))
+    × (buffer′ ≡ list ++ drop (length list) buffer)
+
+-- Plan: a plan, or a refusal and the buffer untouched
 abbrev pub PlanSays : List ℕ → List ℕ → ℕ → ℕ → List ℕ → Answer → List ℕ → Type 0
 PlanSays book sheet a b buffer answer buffer′ =
     InOrder (sheetRefusals book sheet (planRefusals (treeOf book) (rowsOf sheet) a b (length buffer)))
     (λ k. (answer ≡ refuses k) × (buffer′ ≡ buffer))
-    ((cost : ℕ) × (list : List ℕ) × Plan (treeOf book) a b cost list
-    × (answer ≡ gives (cost ∷ length list ∷ []))
-    × (buffer′ ≡ list ++ drop (length list) buffer))
+    (GivesPlan (treeOf book) a b buffer answer buffer′)

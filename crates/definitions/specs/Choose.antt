@@ -11,7 +11,7 @@ use Rattle.definitions.specs.Limits.{commands, longestList}
 use Rattle.definitions.specs.Tree.{Tree}
 use Rattle.definitions.specs.Step.{step}
 use Rattle.definitions.specs.Book.{treeOf}
-use Rattle.definitions.specs.Answer.{refuse, InOrder}
+use Rattle.definitions.specs.Answer.{wants, InOrder}
 use Rattle.definitions.specs.Calls.{bookRefusals, stateRefusals}
 
 -- the part of a list that is used: how many commands up to the first arrival, and their cost
@@ -57,11 +57,18 @@ partOf (second k) one two = take k two
 abbrev pub ChoiceSays : List ℕ → ℕ → ℕ → List ℕ → List ℕ → Choice → ℕ → Type 0
 ChoiceSays book a b one two choice number =
     InOrder
-    (bookRefusals book (stateRefusals (treeOf book) a b (refuse 18 (cheaperOf (treeOf book) a b one two ≡ none) ∷ [])))
+    (bookRefusals book (stateRefusals (treeOf book) a b (wants 18 (cheaperOf (treeOf book) a b one two) ∷ [])))
     (λ k. (choice ≡ first 0) × (number ≡ k))
     ((cheaperOf (treeOf book) a b one two ≡ some choice) × (number ≡ 0))
 
--- Choose: the part given back is the one chosen, and the lent word takes the number
-abbrev pub ChooseSays : List ℕ → ℕ → ℕ → List ℕ → List ℕ → List ℕ → ℕ → Type 0
-ChooseSays book a b one two part number =
-    (choice : Choice) × ChoiceSays book a b one two choice number × (part ≡ partOf choice one two)
+-- where the list stands in memory that a choice is a front part of, the two standing at these places
+abbrev pub placeOf : {Place : Type 0} → Choice → Place → Place → Place
+placeOf (first k) p q = p
+placeOf (second k) p q = q
+
+-- Choose: the part given back is the one chosen, a front of that very list, and the lent word takes the number
+abbrev pub ChooseSays : {Place : Type 0} → List ℕ → ℕ → ℕ → List ℕ → List ℕ → List ℕ → ℕ → Place → Place → Place → Type 0
+ChooseSays book a b one two part number one-place two-place place =
+    (choice : Choice) × ChoiceSays book a b one two choice number
+    × (part ≡ partOf choice one two)
+    × (place ≡ placeOf choice one-place two-place)

@@ -49,18 +49,23 @@ pub record NoWay (t : Tree) (a b : ℕ) (answer : Answer) : Type 0 where
   pub stated : answer ≡ refuses 16
   pub stuck : (xs : List ℕ) (c : ℕ) → Moves t a b xs c → ⊥
 
--- Demand 3, one claim on the whole list of calls and the Plan after it. Of an opening, streams of bytes, lists as opened, and
--- lists that Load left for each stream in turn and last for a refresh alone; of any two states of the expected station and any
--- 255 bytes: Plan's answer is a good plan or "no way" of the expected station.
+-- the streams of a list of Load calls that ends in a refresh alone
+abbrev pub refreshed : List (List ℕ) → List (List ℕ)
+refreshed streams = streams ++ (refreshAlone ∷ [])
+
+-- Demand 3, one claim on the whole list of calls and the Plan after it. Of an opening, streams of bytes of which the last is a refresh
+-- alone, lists as opened, and lists that Load left for each stream in turn; of any two states of the expected station of all these
+-- streams and any 255 bytes: Plan's answer is a good plan or "no way" of that station.
 abbrev pub Demand3 : Type 0
 Demand3 =
     (opening : Opening) (streams : List (List ℕ)) → All Bytes streams
     → (lent lent-sheet opened opened-sheet book sheet : List ℕ)
     → OpenSays (openTree opening) lent lent-sheet 0 opened opened-sheet
-    → Loads opened opened-sheet (streams ++ (refreshAlone ∷ [])) book sheet
-    → (a b : ℕ) → isState (expected (openTree opening) streams) a ≡ true → isState (expected (openTree opening) streams) b ≡ true
+    → Loads opened opened-sheet (refreshed streams) book sheet
+    → let station = expected (openTree opening) (refreshed streams) in
+    (a b : ℕ) → isState station a ≡ true → isState station b ≡ true
     → (buffer : List ℕ) → length buffer ≡ planBuffer → (answer : Answer) (buffer′ : List ℕ) → PlanSays book sheet a b buffer answer buffer′
-    → GoodPlan (expected (openTree opening) streams) a b answer buffer′ ⊎ NoWay (expected (openTree opening) streams) a b answer
+    → GoodPlan station a b answer buffer′ ⊎ NoWay station a b answer
 
 -- Demand 2, its last clause: the stream that Write gives for a book, loaded into any holding whose book is well formed and sheet true,
 -- is taken whole and leaves the same book, every machine in use marked and all blank

@@ -5,7 +5,7 @@ use mathlib.Core.List.{List, [], _∷_}
 use Prim.Native.Nat.{ℕ, suc, _+_, _*_}
 use lib.Dec.{eqb, leb}
 use lib.ListN.{length, getD}
-use Rattle.definitions.specs.Basics.{option}
+use Rattle.definitions.specs.Basics.{_>>=_, option}
 
 -- the commands that change the tree, with their operands
 pub data Edit : Type 0 where
@@ -43,17 +43,18 @@ byteAt bytes i = getD bytes i 0
 abbrev pub pairAt : List ℕ → ℕ → ℕ
 pairAt bytes i = byteAt bytes i * 256 + byteAt bytes (suc i)
 
--- the command of a known opcode and the bytes after it: nodes and costs take two bytes, machines and commands one; 0x18 is left
-unfoldable pub decode : ℕ → List ℕ → Command
+-- the command of an opcode and the bytes after it: nodes and costs take two bytes, machines and commands one; none for an unknown opcode
+unfoldable pub decode : ℕ → List ℕ → Option Command
 decode op bytes =
-    cond (eqb op 0x10) (edit (begin (byteAt bytes 0) (pairAt bytes 1)))
-    (cond (eqb op 0x11) (edit (add (byteAt bytes 0) (pairAt bytes 1)))
-    (cond (eqb op 0x12) (edit (refine (pairAt bytes 0) (byteAt bytes 2) (pairAt bytes 3)))
-    (cond (eqb op 0x13) (edit (remove (pairAt bytes 0)))
-    (cond (eqb op 0x14) (edit (arrow (pairAt bytes 0) (byteAt bytes 2) (pairAt bytes 3) (pairAt bytes 5)))
-    (cond (eqb op 0x15) (edit (clear (pairAt bytes 0) (byteAt bytes 2)))
-    (cond (eqb op 0x16) (edit (start (pairAt bytes 0)))
-    (cond (eqb op 0x17) (edit (crown (byteAt bytes 0) (pairAt bytes 1))) refresh)))))))
+    cond (eqb op 0x10) (some (edit (begin (byteAt bytes 0) (pairAt bytes 1))))
+    (cond (eqb op 0x11) (some (edit (add (byteAt bytes 0) (pairAt bytes 1))))
+    (cond (eqb op 0x12) (some (edit (refine (pairAt bytes 0) (byteAt bytes 2) (pairAt bytes 3))))
+    (cond (eqb op 0x13) (some (edit (remove (pairAt bytes 0))))
+    (cond (eqb op 0x14) (some (edit (arrow (pairAt bytes 0) (byteAt bytes 2) (pairAt bytes 3) (pairAt bytes 5))))
+    (cond (eqb op 0x15) (some (edit (clear (pairAt bytes 0) (byteAt bytes 2))))
+    (cond (eqb op 0x16) (some (edit (start (pairAt bytes 0))))
+    (cond (eqb op 0x17) (some (edit (crown (byteAt bytes 0) (pairAt bytes 1))))
+    (cond (eqb op 0x18) (some refresh) none))))))))
 
 -- what stands next in a stream: nothing, a command and how many bytes it takes, or a refusal
 pub data Next : Type 0 where
@@ -65,4 +66,5 @@ pub data Next : Type 0 where
 unfoldable pub readNext : List ℕ → Next
 readNext [] = ended
 readNext (op ∷ rest) =
-    option (refused 5) (λ size. cond (leb size (length rest)) (taken (decode op rest) (suc size)) (refused 4)) (operandLength op)
+    option (refused 5) (λ next. next)
+    (operandLength op >>= λ size. decode op rest >>= λ c. some (cond (leb size (length rest)) (taken c (suc size)) (refused 4)))

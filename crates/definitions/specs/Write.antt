@@ -2,7 +2,7 @@
 use mathlib.Core.Path.{_≡_}
 use mathlib.Core.Bool.{cond, not, _&&_}
 use mathlib.Core.List.{List, [], _∷_, _++_}
-use Prim.Native.Nat.{ℕ, suc, _/_, _%_, _<_}
+use Prim.Native.Nat.{ℕ, suc, _/_, _%_}
 use lib.Dec.{eqb}
 use lib.ListN.{length, drop}
 use Rattle.definitions.specs.Basics.{option, joined}
@@ -10,7 +10,7 @@ use Rattle.definitions.specs.Limits.{nodes, commands, levels}
 use Rattle.definitions.specs.Tree.{Tree, level}
 use Rattle.definitions.specs.Edit.{isStart}
 use Rattle.definitions.specs.Book.{treeOf}
-use Rattle.definitions.specs.Answer.{Answer, gives, refuses, refuse, InOrder}
+use Rattle.definitions.specs.Answer.{Answer, gives, refuses, asksRoom, InOrder}
 use Rattle.definitions.specs.Calls.{bookRefusals}
 
 -- two bytes, high byte first
@@ -46,7 +46,7 @@ written t =
 -- stream), writing nothing
 abbrev pub WriteSays : List ℕ → List ℕ → Answer → List ℕ → Type 0
 WriteSays book out answer out′ =
-    InOrder (bookRefusals book (refuse 15 (length out < length (written (treeOf book))) ∷ []))
+    InOrder (bookRefusals book (asksRoom 15 (length (written (treeOf book))) (length out) ∷ []))
     (λ k. (answer ≡ refuses k) × (out′ ≡ out))
     ((answer ≡ gives (length (written (treeOf book)) ∷ []))
     × (out′ ≡ written (treeOf book) ++ drop (length (written (treeOf book))) out))

@@ -1,22 +1,22 @@
 -- Exit's answer, refusal by refusal: what each way out of the call has to show. Assumes nothing.
 use mathlib.Core.Path.{_≡_, refl, subst}
 use mathlib.Core.Logic.{inl, inr}
-use mathlib.Core.Bool.{true, false}
-use mathlib.Core.Option.{none, some}
+use mathlib.Core.Bool.{false}
+use mathlib.Core.Option.{some}
 use mathlib.Core.List.{List, [], _∷_}
 use Prim.Native.Nat.{ℕ, _<_}
 use lib.ListN.{length}
-use Rattle.definitions.specs.Limits.{machines, commands, bookLength, sheetLength, absent, blank}
+use Rattle.definitions.specs.Limits.{machines, commands, sheetLength, absent, blank}
+use Rattle.definitions.specs.Tree.{UsedMachine}
 use Rattle.definitions.specs.Costs.{ExitCost}
 use Rattle.definitions.specs.Book.{word, treeOf, WellFormed}
 use Rattle.definitions.specs.Sheet.{costWord, rowsOf}
 use Rattle.definitions.specs.Truth.{TrueSheet}
-use Rattle.definitions.specs.Answer.{Answer, gives, refuses, Refusal, refuse, InOrder}
-use Rattle.definitions.specs.Calls.{WrongLength, ExitSays}
-use Rattle.definitions.proofs.Options.{none-some, true-false}
+use Rattle.definitions.specs.Answer.{Answer, gives, refuses, Refusal, InOrder}
+use Rattle.definitions.specs.Calls.{RightLengths, exitRefusals, ExitSays}
 use Rattle.definitions.proofs.Words.{present-word, no-start}
 use Rattle.sheet.specs.Fields.{Mark}
-use Rattle.truesheet.proofs.Lent.{lent-length, lent-torn, lent-untrue, lent-past}
+use Rattle.definitions.proofs.Answers.{lent-length, lent-torn, lent-untrue, lent-past}
 use Rattle.truesheet.proofs.Reading.{rowsOf-read, cost-said, cost-unsaid}
 use Rattle.truesheet.proofs.Machines.{is-stale, is-filled}
 
@@ -29,18 +29,13 @@ module _ (book sheet : List ℕ) (m x : ℕ) where
   Done answer = (c : ℕ) × ExitCost (treeOf book) m x (some c) × (answer ≡ gives (c ∷ []))
 
   abbrev rest : List Refusal
-  rest =
-      refuse 6 ((m < machines) × (x < commands) → ⊥)
-      ∷ refuse 7 (treeOf book .start m ≡ none)
-      ∷ refuse 13 (rowsOf sheet .stale m ≡ true)
-      ∷ refuse 16 (ExitCost (treeOf book) m x none)
-      ∷ []
+  rest = exitRefusals (treeOf book) (rowsOf sheet) m x
 
-  pub says-length : WrongLength book sheet → ExitSays book sheet m x (refuses 1)
+  pub says-length : (RightLengths book sheet → ⊥) → ExitSays book sheet m x (refuses 1)
   says-length wrong = lent-length book sheet rest (Refused (refuses 1)) (Done (refuses 1)) wrong refl
 
-  pub says-torn : length book ≡ bookLength → length sheet ≡ sheetLength → (WellFormed book → ⊥) → ExitSays book sheet m x (refuses 2)
-  says-torn l k torn = lent-torn book sheet rest (Refused (refuses 2)) (Done (refuses 2)) l k torn refl
+  pub says-torn : RightLengths book sheet → (WellFormed book → ⊥) → ExitSays book sheet m x (refuses 2)
+  says-torn right torn = lent-torn book sheet rest (Refused (refuses 2)) (Done (refuses 2)) right torn refl
 
   pub says-untrue : WellFormed book → length sheet ≡ sheetLength
       → (TrueSheet (treeOf book) sheet → ⊥) → ExitSays book sheet m x (refuses 3)
@@ -56,16 +51,15 @@ module _ (book sheet : List ℕ) (m x : ℕ) where
 
     module _ (range : (m < machines) × (x < commands)) where
       pub says-unused : {f : ℕ} → f ≡ word (treeOf book .start m) → f ≡ absent → ExitSays book sheet m x (refuses 7)
-      says-unused e at = lent (inr (λ out. out range, inl (no-start (treeOf book) (w .sound) m e at, refl)))
+      says-unused e at = lent (inr (range, inl (no-start (treeOf book) (w .sound) m e at, refl)))
 
       module _ {f : ℕ} (e : f ≡ word (treeOf book .start m)) (present : f ≡ absent → ⊥) where
         -- the machine is in use
-        used : treeOf book .start m ≡ some f
-        used = present-word (treeOf book .start m) e present
+        used : UsedMachine (treeOf book) m
+        used = (f, present-word (treeOf book .start m) e present)
 
         pub says-stale : {b : ℕ} → Mark sheet m b → b ≡ 1 → ExitSays book sheet m x (refuses 13)
-        says-stale mark one =
-            lent (inr (λ out. out range, inr (λ unused. none-some unused used, inl (is-stale mark one, refl))))
+        says-stale mark one = lent (inr (range, inr (used, inl (is-stale mark one, refl))))
 
         module _ {b : ℕ} (mark : Mark sheet m b) (other : b ≡ 1 → ⊥) where
           filled : rowsOf sheet .stale m ≡ false
@@ -73,31 +67,15 @@ module _ (book sheet : List ℕ) (m x : ℕ) where
 
           -- the exit cost that the sheet says is the least one
           least : ExitCost (treeOf book) m x (rowsOf sheet .exit m x)
-          least = s .rows .filled m f used filled .exit x (range .1)
+          least = s .rows .filled m (used .0) (used .1) filled .exit x (range .1)
 
           module _ {c : ℕ} (is : c ≡ costWord (rowsOf sheet .exit m x)) where
             pub says-no-way : c ≡ blank → ExitSays book sheet m x (refuses 16)
             says-no-way at =
-                lent
-                (inr (
-                  λ out. out range,
-                  inr (
-                    λ unused. none-some unused used,
-                    inr (
-                      λ stale. true-false stale filled,
-                      inl (subst (ExitCost (treeOf book) m x) (cost-unsaid (rowsOf sheet .exit m x) (rowsOf-read sheet .exit m x) is at) least, refl),
-                    ),
-                  ),
-                ))
+                let never = subst (ExitCost (treeOf book) m x) (cost-unsaid (rowsOf sheet .exit m x) (rowsOf-read sheet .exit m x) is at) least in
+                lent (inr (range, inr (used, inr (filled, inl (never, refl)))))
 
             pub says-costs : (c ≡ blank → ⊥) → ExitSays book sheet m x (gives (c ∷ []))
             says-costs said =
                 let cost = subst (ExitCost (treeOf book) m x) (cost-said (rowsOf sheet .exit m x) is said) least in
-                lent
-                (inr (
-                  λ out. out range,
-                  inr (
-                    λ unused. none-some unused used,
-                    inr (λ stale. true-false stale filled, inr (λ never. never c (cost .0), (c, cost, refl))),
-                  ),
-                ))
+                lent (inr (range, inr (used, inr (filled, inr ((c, cost), (c, cost, refl))))))

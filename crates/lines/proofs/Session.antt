@@ -43,7 +43,8 @@ turns-nothing {input} {t} {given = given} turn = go (turn .takes) refl (turn .gi
         let z : _≡_ {A = ℕ} 0 1 = cc in
         absurd (omega arith)
 
-repeats-nothing : {input : List ℕ} {t : Tree} {r : Rows} {lines : List (List ℕ)} → Repeats input t r (length input) lines → lines ≡ []
+repeats-nothing : {input : List ℕ} {t : Tree} {r : Rows} {lines : List (List ℕ)} {v : Tree} {p : Rows} → Repeats input t r (length input) lines v p
+    → lines ≡ []
 repeats-nothing (over turn) = refl
 repeats-nothing (again turn more) = let no-line = turns-nothing turn in let z : _≡_ {A = ℕ} 0 1 = cc in absurd (omega arith)
 
@@ -56,7 +57,7 @@ end-prints (stops k e) same = let z : _≡_ {A = ℕ} 0 1 = cc in absurd (omega 
 end-prints (plans a b l e p) same = let z : _≡_ {A = ℕ} 0 1 = cc in absurd (omega arith)
 
 line-prints : {input : List ℕ} {t : Tree} {r : Rows} {at : ℕ} {given : Given} → Gives input t r at given → {bytes : List ℕ} {next : ℕ}
-    → given ≡ line bytes next → {lines : List (List ℕ)} → Repeats input t r next lines → Prints t r next (drop next input) lines
+    → given ≡ line bytes next → {lines : List (List ℕ)} {v : Tree} {p : Rows} → Repeats input t r next lines v p → Prints t r next (drop next input) lines
     → Prints t r at (drop at input) (bytes ∷ lines)
 line-prints (finishes e) same more rest = let z : _≡_ {A = ℕ} 0 1 = cc in absurd (omega arith)
 line-prints {input} {at = at} (stops k e) {bytes} {next} same {lines} more rest =
@@ -71,12 +72,12 @@ line-prints {input} {t} {r} {at} (plans a b l e p) {bytes} {next} same {lines} m
     rw first (prints-plan {lines = lines} a b l e p rest′)
 
 -- turns repeated from an offset to the end print what the session prints from there on
-pub session-lines : {input : List ℕ} {t : Tree} {r : Rows} {at : ℕ} {lines : List (List ℕ)} → Repeats input t r at lines
+pub session-lines : {input : List ℕ} {t : Tree} {r : Rows} {at : ℕ} {lines : List (List ℕ)} {v : Tree} {p : Rows} → Repeats input t r at lines v p
     → Prints t r at (drop at input) lines
 session-lines (over turn) = takes-print (turn .takes) (end-prints (turn .gives) refl)
 session-lines (again turn more) = takes-print (turn .takes) (line-prints (turn .gives) refl more (session-lines more))
 
 -- so from the start on they print the lines of the session
-pub session-prints : (input : List ℕ) {lines : List (List ℕ)} → Repeats (take longestInput input) freshTree (openRows freshTree) 0 lines
-    → SessionPrints input lines
+pub session-prints : (input : List ℕ) {lines : List (List ℕ)} {v : Tree} {p : Rows}
+    → Repeats (take longestInput input) freshTree (openRows freshTree) 0 lines v p → SessionPrints input lines
 session-prints input turns = session-lines turns

@@ -36,8 +36,8 @@ pub record Turns (input : List ℕ) (t : Tree) (r : Rows) (at : ℕ) (given : Gi
   pub takes : Takes input t r at u q to
   pub gives : Gives input u q to given
 
--- turns repeated from an offset to the end, and their lines
-pub data Repeats (input : List ℕ) : Tree → Rows → ℕ → List (List ℕ) → Type 0 where
-  over : {t : Tree} {r : Rows} {at : ℕ} {u : Tree} {q : Rows} → Turns input t r at end u q → Repeats input t r at []
-  again : {t : Tree} {r : Rows} {at : ℕ} {u : Tree} {q : Rows} {next : ℕ} {bytes : List ℕ} {lines : List (List ℕ)}
-      → Turns input t r at (line bytes next) u q → Repeats input u q next lines → Repeats input t r at (bytes ∷ lines)
+-- turns repeated from an offset to the end: their lines, and the tree and the rows after the last
+pub data Repeats (input : List ℕ) : Tree → Rows → ℕ → List (List ℕ) → Tree → Rows → Type 0 where
+  over : {t : Tree} {r : Rows} {at : ℕ} {u : Tree} {q : Rows} → Turns input t r at end u q → Repeats input t r at [] u q
+  again : {t : Tree} {r : Rows} {at : ℕ} {u : Tree} {q : Rows} {next : ℕ} {bytes : List ℕ} {lines : List (List ℕ)} {v : Tree} {p : Rows}
+      → Turns input t r at (line bytes next) u q → Repeats input u q next lines v p → Repeats input t r at (bytes ∷ lines) v p

@@ -1,7 +1,7 @@
 -- The starts and holders of a table's tree are read back out of its book, so its root and its marks are too; and what an opening says
 -- of a book and a sheet. Assumes nothing.
 use mathlib.Core.Path.{_≡_, refl, _∙_, ap, ap₂}
-use mathlib.Core.Logic.{inl, inr, ⊎-elim}
+use mathlib.Core.Logic.{inl, inr}
 use mathlib.Core.Bool.{not, _&&_}
 use mathlib.Core.Option.{Option, some}
 use mathlib.Core.List.{List}
@@ -14,7 +14,7 @@ use Rattle.definitions.specs.Tree.{Tree, usedMachine}
 use Rattle.definitions.specs.Book.{word, encode, machineWord, treeOf}
 use Rattle.definitions.specs.Sheet.{Rows, staleWord, machineRow, nodeRow, machineRowLength, encodeRows, machineRowWord}
 use Rattle.definitions.specs.Open.{openRows}
-use Rattle.definitions.specs.Calls.{WrongLength, OpenSays}
+use Rattle.definitions.specs.Calls.{RightLengths, OpenSays}
 use Rattle.definitions.proofs.Words.{machine-word, machine-row-word, node-row-word, encodeRows-length, encodeRows-is, number-is}
 use Rattle.opening.specs.Table.{grown, free, rootOf, rowCount, rowTree}
 use Rattle.opening.proofs.Last.{last-under, last-same}
@@ -99,10 +99,10 @@ sheet-marked rows book sheet h e f =
 -- ---- what an opening says
 
 -- a wrong length is refused with 1, and nothing is written
-pub refused : (t : Tree) (book sheet : List ℕ) → WrongLength book sheet → OpenSays t book sheet 1 book sheet
+pub refused : (t : Tree) (book sheet : List ℕ) → (RightLengths book sheet → ⊥) → OpenSays t book sheet 1 book sheet
 refused t book sheet h = inl (h, (refl, refl, refl))
 
 -- with right lengths the tree is opened
 pub opened : (t : Tree) (book sheet book′ sheet′ : List ℕ) → length book ≡ bookLength → length sheet ≡ sheetLength → book′ ≡ encode t
     → sheet′ ≡ encodeRows (openRows t) → OpenSays t book sheet 0 book′ sheet′
-opened t book sheet book′ sheet′ lb ls eb es = inr (λ w. ⊎-elim (λ f. f lb) (λ f. f ls) w, (refl, eb, es))
+opened t book sheet book′ sheet′ lb ls eb es = inr ((lb, ls), (refl, eb, es))

@@ -14,7 +14,7 @@ use Rattle.definitions.specs.Limits.{machines, absent}
 use Rattle.definitions.specs.Book.{word, number, under}
 use Rattle.definitions.specs.Open.{given, ladderNodes, ladderMachines, ladderBelow, ladderHolder, ladderTransition, ladderTree}
 use Rattle.definitions.proofs.Options.{isAt-true, isAt-some, none-some}
-use Rattle.definitions.proofs.Simple.{and-true as both}
+use Rattle.definitions.proofs.Options.{and-true as both}
 use Rattle.definitions.proofs.Commands.{not-true-false}
 use Rattle.definitions.proofs.Opened.{given-some, given-below}
 use Rattle.definitions.proofs.Words.{under-is, number-word, same-tree}

@@ -150,6 +150,6 @@ module _ {book sheet : List ℕ} {a b room : ℕ} (p : Plannable book sheet a b 
         → buffer′ ≡ list ++ drop (length list) buffer → Answers t a b buffer (gives (cost ∷ count ∷ [])) buffer′
     planned {cost = cost} {count = count} e f g =
         inr (
-          λ never. never (getD dist b 0) (list, the-plan .moves),
+          (getD dist b 0, the-plan .least),
           (getD dist b 0, list, the-plan, ap₂ (λ (c n : ℕ). gives (c ∷ n ∷ [])) e f, g),
         )

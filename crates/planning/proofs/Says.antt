@@ -1,21 +1,19 @@
 -- Plan's answer, refusal by refusal: what each way out of the call has to show. Assumes nothing.
 use mathlib.Core.Path.{_≡_, refl}
 use mathlib.Core.Logic.{inl, inr}
-use mathlib.Core.Bool.{true}
-use mathlib.Core.Option.{none}
-use mathlib.Core.List.{List, [], _∷_, _++_}
+use mathlib.Core.Bool.{true, false}
+use mathlib.Core.List.{List, [], _∷_}
 use Prim.Native.Nat.{ℕ, _-_, _≤_, _<_}
-use native.Mathlib.Omega.{arith}
-use lib.ListN.{length, drop}
-use Rattle.definitions.specs.Limits.{bookLength, sheetLength}
+use lib.ListN.{length}
+use Rattle.definitions.specs.Limits.{sheetLength}
 use Rattle.definitions.specs.Tree.{Tree, states}
 use Rattle.definitions.specs.Costs.{LeastCost}
 use Rattle.definitions.specs.Book.{treeOf, WellFormed}
 use Rattle.definitions.specs.Sheet.{rowsOf}
 use Rattle.definitions.specs.Truth.{TrueSheet}
-use Rattle.definitions.specs.Answer.{Answer, gives, refuses, Refusal, refuse}
-use Rattle.definitions.specs.Calls.{WrongLength, planRefusals, Plan, PlanSays}
-use Rattle.truesheet.proofs.Lent.{lent-length, lent-torn, lent-untrue, lent-past}
+use Rattle.definitions.specs.Answer.{Answer, refuses, Refusal, asksRoom, wantsLeast}
+use Rattle.definitions.specs.Calls.{RightLengths, planRefusals, GivesPlan, PlanSays}
+use Rattle.definitions.proofs.Answers.{lent-length, lent-torn, lent-untrue, lent-past}
 use Rattle.stepping.specs.Meaning.{StatesJudged}
 use Rattle.stepping.proofs.States.{BothStates, states-met, states-past}
 use Rattle.planning.specs.Meaning.{Answers}
@@ -29,17 +27,16 @@ module _ (book sheet : List ℕ) (a b : ℕ) (buffer : List ℕ) where
   Refused answer buffer′ k = (answer ≡ refuses k) × (buffer′ ≡ buffer)
 
   abbrev Done : Answer → List ℕ → Type 0
-  Done answer buffer′ =
-      (cost : ℕ) × (list : List ℕ) × Plan t a b cost list × (answer ≡ gives (cost ∷ length list ∷ [])) × (buffer′ ≡ list ++ drop (length list) buffer)
+  Done = GivesPlan t a b buffer
 
   abbrev rest : List Refusal
   rest = planRefusals t (rowsOf sheet) a b (length buffer)
 
-  pub says-length : WrongLength book sheet → PlanSays book sheet a b buffer (refuses 1) buffer
+  pub says-length : (RightLengths book sheet → ⊥) → PlanSays book sheet a b buffer (refuses 1) buffer
   says-length wrong = lent-length book sheet rest (Refused (refuses 1) buffer) (Done (refuses 1) buffer) wrong (refl, refl)
 
-  pub says-torn : length book ≡ bookLength → length sheet ≡ sheetLength → (WellFormed book → ⊥) → PlanSays book sheet a b buffer (refuses 2) buffer
-  says-torn l k torn = lent-torn book sheet rest (Refused (refuses 2) buffer) (Done (refuses 2) buffer) l k torn (refl, refl)
+  pub says-torn : RightLengths book sheet → (WellFormed book → ⊥) → PlanSays book sheet a b buffer (refuses 2) buffer
+  says-torn right torn = lent-torn book sheet rest (Refused (refuses 2) buffer) (Done (refuses 2) buffer) right torn (refl, refl)
 
   pub says-untrue : WellFormed book → length sheet ≡ sheetLength → (TrueSheet t sheet → ⊥) → PlanSays book sheet a b buffer (refuses 3) buffer
   says-untrue w k untrue = lent-untrue book sheet rest (Refused (refuses 3) buffer) (Done (refuses 3) buffer) w k untrue (refl, refl)
@@ -48,10 +45,10 @@ module _ (book sheet : List ℕ) (a b : ℕ) (buffer : List ℕ) where
     pub says-stale : (m : ℕ) × (rowsOf sheet .stale m ≡ true) → PlanSays book sheet a b buffer (refuses 13) buffer
     says-stale stale = lent-past book sheet rest (Refused (refuses 13) buffer) (Done (refuses 13) buffer) w s (inl (stale, (refl, refl)))
 
-    module _ (fresh : (m : ℕ) × (rowsOf sheet .stale m ≡ true) → ⊥) where
+    module _ (fresh : (m : ℕ) → rowsOf sheet .stale m ≡ false) where
       -- the refusals after those of the two states
       abbrev last : List Refusal
-      last = refuse 15 (length buffer < states t - 1) ∷ refuse 16 (LeastCost t a b none) ∷ []
+      last = asksRoom 15 (states t - 1) (length buffer) ∷ wantsLeast 16 (LeastCost t a b) ∷ []
 
       pub says-states : (r : ℕ) → StatesJudged t a b r → (r ≡ 0 → ⊥) → PlanSays book sheet a b buffer (refuses r) buffer
       says-states r judged nonzero =
@@ -68,4 +65,4 @@ module _ (book sheet : List ℕ) (a b : ℕ) (buffer : List ℕ) where
             → PlanSays book sheet a b buffer answer buffer′
         says-answers enough {answer} {buffer′} answers =
             lent-past book sheet rest (Refused answer buffer′) (Done answer buffer′) w s
-            (inr (fresh, states-past both last (Refused answer buffer′) (Done answer buffer′) (inr (λ short. omega (arith, short, enough), answers))))
+            (inr (fresh, states-past both last (Refused answer buffer′) (Done answer buffer′) (inr (enough, answers))))

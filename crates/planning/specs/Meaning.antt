@@ -2,16 +2,15 @@
 use mathlib.Core.Path.{_≡_}
 use mathlib.Core.Bool.{false}
 use mathlib.Core.Option.{none}
-use mathlib.Core.List.{List, [], _∷_, _++_}
+use mathlib.Core.List.{List, [], _∷_}
 use Prim.Native.Nat.{ℕ, _-_, _≤_}
-use lib.ListN.{length, drop}
 use Rattle.definitions.specs.Tree.{Tree, UsedNode, states}
 use Rattle.definitions.specs.Costs.{LeastCost}
 use Rattle.definitions.specs.Book.{treeOf, WellFormed}
 use Rattle.definitions.specs.Sheet.{rowsOf}
 use Rattle.definitions.specs.Truth.{TrueSheet}
-use Rattle.definitions.specs.Answer.{Answer, gives, refuses, refuse, InOrder}
-use Rattle.definitions.specs.Calls.{Plan}
+use Rattle.definitions.specs.Answer.{Answer, gives, refuses, wantsLeast, InOrder}
+use Rattle.definitions.specs.Calls.{GivesPlan}
 use Rattle.planning.specs.declared.PlanAnswer.{PlanAnswer}
 use Rattle.planning.specs.declared.PlanAnswer.the-variants.{Planned, Refused}
 
@@ -33,8 +32,6 @@ pub record Plannable (book sheet : List ℕ) (a b room : ℕ) : Type 0 where
 -- what is answered and written then: 16, or a plan
 abbrev pub Answers : Tree → ℕ → ℕ → List ℕ → Answer → List ℕ → Type 0
 Answers t a b buffer answer buffer′ =
-    InOrder (refuse 16 (LeastCost t a b none) ∷ [])
+    InOrder (wantsLeast 16 (LeastCost t a b) ∷ [])
     (λ k. (answer ≡ refuses k) × (buffer′ ≡ buffer))
-    ((cost : ℕ) × (list : List ℕ) × Plan t a b cost list
-    × (answer ≡ gives (cost ∷ length list ∷ []))
-    × (buffer′ ≡ list ++ drop (length list) buffer))
+    (GivesPlan t a b buffer answer buffer′)

@@ -15,7 +15,7 @@ use Rattle.definitions.proofs.Words.{InRange, start-range, treeOf-encode, encod
 use Rattle.definitions.proofs.Opened.{fresh-sound}
 use Rattle.definitions.proofs.Tests.{rows-sheet}
 use Rattle.rows.proofs.Open.{open-true}
-use Rattle.printing.specs.Meaning.{Fresh}
+use Rattle.printing.specs.Meaning.{OpenedFresh}
 
 -- the rows of an opening mark machines, and say nothing else
 open-range : (t : Tree) → Sound t → InRange (openRows t)
@@ -31,7 +31,7 @@ open-range t s =
     }
 
 -- the words of an opened tree and its rows
-fresh-words : Fresh (encode freshTree) (encodeRows (openRows freshTree))
+fresh-words : OpenedFresh (encode freshTree) (encodeRows (openRows freshTree))
 fresh-words =
     let tree = treeOf-encode freshTree fresh-sound in
     let range = open-range freshTree fresh-sound in
@@ -44,7 +44,6 @@ fresh-words =
 
 -- what Open fresh leaves where both lengths are right
 pub opened-fresh : {book sheet : List ℕ} {number : ℕ} {book′ sheet′ : List ℕ} → length book ≡ bookLength → length sheet ≡ sheetLength
-    → OpenSays freshTree book sheet number book′ sheet′ → Fresh book′ sheet′
-opened-fresh long wide (inl (inl wrong, met)) = absurd (wrong long)
-opened-fresh long wide (inl (inr wrong, met)) = absurd (wrong wide)
+    → OpenSays freshTree book sheet number book′ sheet′ → OpenedFresh book′ sheet′
+opened-fresh long wide (inl (wrong, met)) = absurd (wrong (long, wide))
 opened-fresh long wide (inr (right, done)) = rw (done .1, done .2) fresh-words

@@ -11,6 +11,9 @@ use Rattle.reading.specs.declared.Command.{Command}
 use Rattle.reading.specs.declared.Command.the-variants.{Begin, Add, Refine, Remove, Arrow, Clear, Start, Crown, Refresh}
 use Rattle.reading.specs.declared.Operands.{Operands}
 use Rattle.reading.specs.declared.Operands.the-variants.{Bytes, Unknown}
+use Rattle.reading.specs.declared.Decoded.{Decoded}
+use Rattle.reading.specs.declared.Decoded.the-variants.{Known}
+use Rattle.reading.specs.declared.Decoded.the-variants as Decoded
 use Rattle.reading.specs.declared.Read.{Read}
 use Rattle.reading.specs.declared.Read.the-variants.{Ended, Taken, Refused}
 
@@ -31,6 +34,11 @@ commandOf (Start n) = edit (start n)
 commandOf (Crown m n) = edit (crown m n)
 commandOf Refresh = refresh
 
+-- the command of an opcode, if it has one
+abbrev pub decodedOf : Decoded → Option Meant
+decodedOf (Known c) = some (commandOf c)
+decodedOf Decoded.Unknown = none
+
 -- what stands next in a stream
 abbrev pub readOf : Read → Next
 readOf Ended = ended
@@ -49,16 +57,18 @@ Narrow (Start n) = n < 65536
 Narrow (Crown m n) = (m < 256) × (n < 65536)
 Narrow Refresh = Unit
 
+abbrev pub NarrowDecoded : Decoded → Type 0
+NarrowDecoded (Known c) = Narrow c
+NarrowDecoded Decoded.Unknown = Unit
+
 abbrev pub NarrowRead : Read → Type 0
 NarrowRead Ended = Unit
 NarrowRead (Taken c size) = Narrow c
 NarrowRead (Refused k) = Unit
 
--- the opcode is known, and behind it, at a place of the bytes, its operands are all there
-pub record Whole (bytes : List ℕ) (at op : ℕ) : Type 0 where
-  pub operands : ℕ
-  pub known : operandLength op ≡ some operands
-  pub there : at + operands < length bytes
+-- behind the opcode, at a place of the bytes, the operands are all there that it has
+abbrev pub Whole : List ℕ → ℕ → ℕ → Type 0
+Whole bytes at op = (operands : ℕ) → operandLength op ≡ some operands → at + operands < length bytes
 
 -- r is what stands next in the bytes behind those that are taken
 pub record NextRead (bytes : List ℕ) (taken : ℕ) (r : Read) : Type 0 where

@@ -3,7 +3,7 @@ ghost use mathlib.Core.Path.{_≡_};
 ghost use Prim.Native.Nat.{_+_, _<_};
 ghost use lib.ListN.{length, drop};
 ghost use Rattle.definitions.specs.Stream.{operandLength, byteAt, pairAt, decode};
-ghost use Rattle.reading.specs.Meaning.{operandsOf, commandOf, Narrow, Whole, NextRead};
+ghost use Rattle.reading.specs.Meaning.{operandsOf, decodedOf, NarrowDecoded, Whole, NextRead};
 
 // The nine commands of a stream, with their operands.
 pub enum Command {
@@ -46,6 +46,12 @@ pub enum Command {
 // How many bytes of operands follow an opcode; or that it is the opcode of no command.
 pub enum Operands {
     Bytes(usize),
+    Unknown,
+}
+
+// The command of an opcode; or that it is the opcode of none.
+pub enum Decoded {
+    Known(Command),
     Unknown,
 }
 
@@ -101,46 +107,47 @@ pub fn operand_length(op: u32) -> Operands
     }
 }
 
-// The command whose opcode, at a place of a stream, is op. Its operands are all there.
-pub fn decode(stream: &[u8], at: usize, op: u32) -> Command
+// The command whose opcode, at a place of a stream, is op. Where the opcode is known its operands are all there.
+fn decode(stream: &[u8], at: usize, op: u32) -> Decoded
     requires { ⌜ Whole (now stream) at op ⌝ }
-    ensures { λ r. ⌜ (commandOf r ≡ decode op (drop (at + 1) (now (stream .entry)))) × Narrow r ⌝ }
+    ensures { λ r. ⌜ (decodedOf r ≡ decode op (drop (at + 1) (now (stream .entry)))) × NarrowDecoded r ⌝ }
 {
     match op {
-        0x10 => Command::Begin {
+        0x10 => Decoded::Known(Command::Begin {
             machine: operand(stream, at, 0),
             node: operand_pair(stream, at, 1),
-        },
-        0x11 => Command::Add {
+        }),
+        0x11 => Decoded::Known(Command::Add {
             machine: operand(stream, at, 0),
             node: operand_pair(stream, at, 1),
-        },
-        0x12 => Command::Refine {
+        }),
+        0x12 => Decoded::Known(Command::Refine {
             node: operand_pair(stream, at, 0),
             machine: operand(stream, at, 2),
             first: operand_pair(stream, at, 3),
-        },
-        0x13 => Command::Remove {
+        }),
+        0x13 => Decoded::Known(Command::Remove {
             node: operand_pair(stream, at, 0),
-        },
-        0x14 => Command::Arrow {
+        }),
+        0x14 => Decoded::Known(Command::Arrow {
             node: operand_pair(stream, at, 0),
             command: operand(stream, at, 2),
             target: operand_pair(stream, at, 3),
             cost: operand_pair(stream, at, 5),
-        },
-        0x15 => Command::Clear {
+        }),
+        0x15 => Decoded::Known(Command::Clear {
             node: operand_pair(stream, at, 0),
             command: operand(stream, at, 2),
-        },
-        0x16 => Command::Start {
+        }),
+        0x16 => Decoded::Known(Command::Start {
             node: operand_pair(stream, at, 0),
-        },
-        0x17 => Command::Crown {
+        }),
+        0x17 => Decoded::Known(Command::Crown {
             machine: operand(stream, at, 0),
             node: operand_pair(stream, at, 1),
-        },
-        _ => Command::Refresh,
+        }),
+        0x18 => Decoded::Known(Command::Refresh),
+        0x00..=0x0F | 0x19..=0xFFFFFFFF => Decoded::Unknown,
     }
 }
 
@@ -159,8 +166,11 @@ pub fn command_at(stream: &[u8], taken: usize) -> Read
     if stream.len() - taken <= size {
         return Read::Refused(4);
     }
+    let Decoded::Known(command) = decode(stream, taken, op) else {
+        return Read::Refused(5);
+    };
     Read::Taken {
-        command: decode(stream, taken, op),
+        command,
         size: 1 + size,
     }
 }

@@ -6,26 +6,17 @@ use mathlib.Core.Option.{Option, none, some}
 use mathlib.Core.List.{List, [], _∷_}
 use Prim.Native.Nat.{ℕ, _<_}
 use native.Mathlib.Omega.{arith}
-use Rattle.definitions.specs.Basics.{Least}
 use Rattle.definitions.specs.Limits.{commands}
 use Rattle.definitions.specs.Tree.{Tree, Sound}
 use Rattle.definitions.specs.Step.{Arrival}
 use Rattle.definitions.specs.Sheet.{Rows}
 use Rattle.definitions.specs.Truth.{move, walk, TrueRows}
-use Rattle.definitions.proofs.Options.{present}
+use Rattle.definitions.proofs.Options.{present, least-unique}
 use Rattle.definitions.proofs.Path.{parent-below, counting-range}
 use Rattle.definitions.proofs.Runs.{run-nil, run-first, run-cons}
 use Rattle.definitions.proofs.Local.{move-parts}
 use Rattle.definitions.proofs.LocalTruth.{filled-below, move-owned}
 use Rattle.rows.proofs.Locality.{same-machine, SameMoves, same-move}
-
--- two properties of the same numbers have the same least number
-pub least-unique : (P Q : ℕ → Type 0) → ((c : ℕ) → P c → Q c) → ((c : ℕ) → Q c → P c) → (a b : Option ℕ) → Least P a → Least Q b → a ≡ b
-least-unique P Q to from none none la lb = refl
-least-unique P Q to from none (some d) la lb = absurd (la d (from d (lb .0)))
-least-unique P Q to from (some c) none la lb = absurd (lb c (to c (la .0)))
-least-unique P Q to from (some c) (some d) la lb =
-    ap {B = Option ℕ} some (omega (arith, la .1 d (from d (lb .0)), lb .1 c (to c (la .0))))
 
 -- ---- exit costs
 

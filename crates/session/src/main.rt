@@ -4,5 +4,7 @@ use libc::STDIN_FILENO;
 fn main() {
     let mut input = io::large_buffer();
     let n = io::read_full(STDIN_FILENO, &mut input);
-    printing::print_session(&input[..n]);
+    let mut book = [0u32; book::BOOK];
+    let mut sheet = [0u32; sheet::SHEET];
+    printing::print_session(&mut book, &mut sheet, &input[..n]);
 }

@@ -5,7 +5,9 @@ use libc::STDOUT_FILENO;
 fn show(text: &[u8], input: &[u8]) {
     io::write_all(STDOUT_FILENO, text);
     io::write_all(STDOUT_FILENO, b"\n");
-    printing::print_session(input);
+    let mut book = [0u32; book::BOOK];
+    let mut sheet = [0u32; sheet::SHEET];
+    printing::print_session(&mut book, &mut sheet, input);
 }
 
 // Stores bytes from a place on, as far as there is room; the next place.

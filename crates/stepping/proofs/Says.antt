@@ -19,16 +19,15 @@ module _ (book : List ℕ) (s x : ℕ) where
   says-length wrong = inl (wrong, refl)
 
   pub says-torn : length book ≡ bookLength → (WellFormed book → ⊥) → StepSays book s x (refuses 2)
-  says-torn l torn = inr (λ wrong. wrong l, inl (torn, refl))
+  says-torn l torn = inr (l, inl (torn, refl))
 
   module _ (w : WellFormed book) where
     pub says-range : ((s < nodes) × (x < commands) → ⊥) → StepSays book s x (refuses 6)
-    says-range out = inr (λ wrong. wrong (w .length), inr (λ torn. torn w, inl (out, refl)))
+    says-range out = inr (w .length, inr (w, inl (out, refl)))
 
     module _ (range : (s < nodes) × (x < commands)) where
       pub says-unused : {o : ℕ} → o ≡ word (treeOf book .owner s) → o ≡ absent → StepSays book s x (refuses 7)
-      says-unused e at =
-          inr (λ wrong. wrong (w .length), inr (λ torn. torn w, inr (λ out. out range, inl (no-owner (treeOf book) (w .sound) s e at, refl))))
+      says-unused e at = inr (w .length, inr (w, inr (range, inl (no-owner (treeOf book) (w .sound) s e at, refl))))
 
       module _ {o : ℕ} (e : o ≡ word (treeOf book .owner s)) (present : o ≡ absent → ⊥) where
         -- the node is in use
@@ -38,8 +37,8 @@ module _ (book : List ℕ) (s x : ℕ) where
         pub says-refined : {b : ℕ} → b ≡ word (treeOf book .below s) → (b ≡ absent → ⊥) → StepSays book s x (refuses 14)
         says-refined {b} f held =
             inr (
-              λ wrong. wrong (w .length),
-              inr (λ torn. torn w, inr (λ out. out range, inr (λ unused. none-some unused (is-used .1), inl (λ plain. none-some plain (present-word (treeOf book .below s) f held), refl)))),
+              w .length,
+              inr (w, inr (range, inr (is-used, inl (λ plain. none-some plain (present-word (treeOf book .below s) f held), refl)))),
             )
 
         module _ {b : ℕ} (f : b ≡ word (treeOf book .below s)) (plain : b ≡ absent) where
@@ -47,28 +46,8 @@ module _ (book : List ℕ) (s x : ℕ) where
           is-plain = no-below (treeOf book) (w .sound) s f plain
 
           pub says-stopped : none ≡ step (treeOf book) s x → StepSays book s x (refuses 17)
-          says-stopped stop =
-              inr (
-                λ wrong. wrong (w .length),
-                inr (
-                  λ torn. torn w,
-                  inr
-                      (λ out. out range, inr (λ unused. none-some unused (is-used .1), inr (λ refined. refined is-plain, inl (sym stop, refl)))),
-                ),
-              )
+          says-stopped stop = inr (w .length, inr (w, inr (range, inr (is-used, inr (is-plain, inl (sym stop, refl))))))
 
           pub says-moved : {n c : ℕ} → some (record { node = n; cost = c }) ≡ step (treeOf book) s x → StepSays book s x (gives (n ∷ c ∷ []))
           says-moved moved =
-              inr (
-                λ wrong. wrong (w .length),
-                inr (
-                  λ torn. torn w,
-                  inr (
-                    λ out. out range,
-                    inr (
-                      λ unused. none-some unused (is-used .1),
-                      inr (λ refined. refined is-plain, inr (λ stop. none-some stop (sym moved), (_, sym moved, refl))),
-                    ),
-                  ),
-                ),
-              )
+              inr (w .length, inr (w, inr (range, inr (is-used, inr (is-plain, inr ((_, sym moved), (_, sym moved, refl)))))))

@@ -4,4 +4,3 @@ pub mod Exits
 pub mod Machines
 pub mod Nodes
 pub mod Chains
-pub mod Lent

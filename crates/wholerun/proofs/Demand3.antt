@@ -1,6 +1,6 @@
 -- Demand 3: after an opening, any Loads and a refresh the lists hold the expected station, and Plan's answer is a good plan or a true "no way".
 -- Assumes nothing.
-use mathlib.Core.Path.{_≡_, refl, _∙_, ap}
+use mathlib.Core.Path.{_≡_, refl, sym, _∙_, ap, subst}
 use mathlib.Core.Logic.{_⊎_, inl, inr, ⊎-elim}
 use mathlib.Core.Bool.{true, not}
 use mathlib.Core.Option.{none, some}
@@ -18,20 +18,21 @@ use Rattle.definitions.specs.Sheet.{Rows, rowsOf}
 use Rattle.definitions.specs.Truth.{TrueSheet}
 use Rattle.definitions.specs.Stream.{refresh, operandLength, decode}
 use Rattle.definitions.specs.Edit.{refusal}
-use Rattle.definitions.specs.Load.{load, stopped, after, expected}
+use Rattle.definitions.specs.Load.{Outcome, load, stopped, after, expected}
 use Rattle.definitions.specs.Open.{Opening, openTree}
 use Rattle.definitions.specs.Answer.{Answer, refuses, InOrder}
-use Rattle.definitions.specs.Calls.{WrongLength, OpenSays, LoadAnswer, LoadDone, LoadSays, planRefusals, PlanSays}
-use Rattle.definitions.specs.Demand.{Bytes, Loads, refreshAlone, GoodPlan, Demand3}
-use Rattle.definitions.proofs.Options.{none-some, true-false, isSome-true, isSome-false}
+use Rattle.definitions.specs.Calls.{OpenSays, LoadAnswer, LoadDone, LoadSays, GivesPlan, planRefusals, PlanSays}
+use Rattle.definitions.specs.Demand.{Bytes, Loads, refreshAlone, refreshed, GoodPlan, Demand3}
+use Rattle.definitions.proofs.Options.{none-some, true-false, isSome-true, isSome-false, and-true}
+use Rattle.definitions.proofs.Answers.{load-done, plan-on}
 use Rattle.definitions.proofs.Words.{treeOf-encode, encode-well-formed}
 use Rattle.definitions.proofs.Streams.{next-takes, next-nothing, load-taken, load-end, read-whole}
 use Rattle.definitions.proofs.Kept.{load-sound, expected-sound}
 use Rattle.definitions.proofs.Opened.{open-sound}
-use Rattle.definitions.proofs.Simple.{and-true, states-bound}
+use Rattle.definitions.proofs.Simple.{states-bound}
 use Rattle.rows.proofs.Open.{open-true}
 use Rattle.rows.proofs.Loaded.{commands-true}
-use Rattle.wholerun.specs.WholeRun.{Holds, GivesPlan, AnswersFor, Demanded, Answered}
+use Rattle.wholerun.specs.WholeRun.{Ready, AnswersFor, Demanded, Answered}
 use Rattle.wholerun.proofs.TrueWords.{true-words, true-marks}
 
 -- both lists hold this tree, which is sound
@@ -58,7 +59,7 @@ opened o (inr (right, done)) =
 load-refresh : (t : Tree) → load t refreshAlone ≡ after refresh 1 (stopped 0 t)
 unfolding operandLength decode refusal
 load-refresh t =
-    let one = next-takes t refreshAlone (read-whole 0x18 [] {k = 0} refl (omega arith)) refl in
+    let one = next-takes t refreshAlone (read-whole 0x18 [] {k = 0} refl (omega arith) refl) refl in
     load-taken t refreshAlone one ∙ ap (after refresh 1) (load-end t [] (next-nothing t))
 
 module _ {t : Tree} {book sheet : List ℕ} (kept : Kept t book sheet) where
@@ -69,23 +70,13 @@ module _ {t : Tree} {book sheet : List ℕ} (kept : Kept t book sheet) where
   held : treeOf book ≡ t
   held = ap treeOf (kept .written) ∙ treeOf-encode t (kept .sound)
 
-  -- and a true sheet, so no call refuses them with 1, 2 or 3
-  unrefused : {P Q R Rest : Type 0}
-      → (WrongLength book sheet × P)
-      ⊎ ((WrongLength book sheet → ⊥)
-      × (((WellFormed book → ⊥) × Q)
-      ⊎ (((WellFormed book → ⊥) → ⊥)
-      × (((TrueSheet (treeOf book) sheet → ⊥) × R) ⊎ (((TrueSheet (treeOf book) sheet → ⊥) → ⊥) × Rest)))))
-      → Rest
-  unrefused (inl refused) = absurd (⊎-elim (λ wrong. wrong (formed .length)) (λ wrong. wrong (kept .filled .length)) (refused .0))
-  unrefused (inr (long, inl refused)) = absurd (refused .0 formed)
-  unrefused (inr (long, inr (well, inl refused))) = absurd (refused .0 (rw held (kept .filled)))
-  unrefused (inr (long, inr (well, inr (right, rest)))) = rest
+  true-sheet : TrueSheet (treeOf book) sheet
+  true-sheet = rw held (kept .filled)
 
   -- Load does its commands
   does : (stream : List ℕ) {book′ sheet′ : List ℕ} {answer : LoadAnswer} → LoadSays book sheet stream answer book′ sheet′
       → LoadDone t (rowsOf sheet) (load t stream) answer book′ sheet′
-  does stream says = rw held at (unrefused says)
+  does stream says = rw held at (load-done book sheet formed true-sheet stream says)
 
   -- it leaves lists that hold the tree after the stream
   pub loaded : (stream : List ℕ) → Bytes stream → {book′ sheet′ : List ℕ} {answer : LoadAnswer}
@@ -100,8 +91,8 @@ module _ {t : Tree} {book sheet : List ℕ} (kept : Kept t book sheet) where
       }
 
   -- a refresh alone leaves the same tree, and nothing stale
-  pub refreshed : {book′ sheet′ : List ℕ} {answer : LoadAnswer} → LoadSays book sheet refreshAlone answer book′ sheet′ → Holds t book′ sheet′
-  refreshed says =
+  pub refresh-done : {book′ sheet′ : List ℕ} {answer : LoadAnswer} → LoadSays book sheet refreshAlone answer book′ sheet′ → Ready t book′ sheet′
+  refresh-done says =
       let done = rw (load-refresh t) at (does refreshAlone says) in
       let (mid, fills, same) = done .done in
       let rows = rw (← same) at (fills .filled) in
@@ -113,32 +104,39 @@ module _ {t : Tree} {book sheet : List ℕ} (kept : Kept t book sheet) where
 
 -- ---- all Loads, each on what the one before left, with a refresh alone as the last
 
+-- their streams are streams of bytes
+pub refreshed-bytes : (streams : List (List ℕ)) → All Bytes streams → All Bytes (refreshed streams)
+refreshed-bytes [] bytes = ((omega arith, tt), tt)
+refreshed-bytes (stream ∷ streams) bytes = (bytes .0, refreshed-bytes streams (bytes .1))
+
 loads-refreshed : {t : Tree} {book sheet book′ sheet′ : List ℕ} (streams : List (List ℕ)) → Kept t book sheet → All Bytes streams
-    → Loads book sheet (streams ++ (refreshAlone ∷ [])) book′ sheet′ → Holds (expected t streams) book′ sheet′
+    → Loads book sheet (refreshed streams) book′ sheet′ → Ready (expected t (refreshed streams)) book′ sheet′
 unfolding expected
-loads-refreshed [] kept bytes (Loads.then says Loads.done) = refreshed kept says
+loads-refreshed {t} {book′ = book′} {sheet′ = sheet′} [] kept bytes (Loads.then says Loads.done) =
+    subst (λ (o : Outcome). Ready (o .tree) book′ sheet′) (sym (load-refresh t)) (refresh-done kept says)
 loads-refreshed (stream ∷ streams) kept bytes (Loads.then says rest) =
     loads-refreshed streams (loaded kept stream (bytes .0) says) (bytes .1) rest
 
 -- from a holding just opened
 pub prepared : (o : Opening) (streams : List (List ℕ)) → All Bytes streams → {lent lent-sheet opened-book opened-sheet book sheet : List ℕ}
     → OpenSays (openTree o) lent lent-sheet 0 opened-book opened-sheet
-    → Loads opened-book opened-sheet (streams ++ (refreshAlone ∷ [])) book sheet → Holds (expected (openTree o) streams) book sheet
+    → Loads opened-book opened-sheet (refreshed streams) book sheet → Ready (expected (openTree o) (refreshed streams)) book sheet
 prepared o streams bytes opening calls = loads-refreshed streams (opened o opening) bytes calls
 
 -- ---- the Plan
 
 -- on such lists, with 255 bytes, Plan refuses 6, 7, 14 or 16, or gives a plan
-answers : {t : Tree} → Sound t → {book sheet : List ℕ} → Holds t book sheet → (a b : ℕ) {buffer : List ℕ} → length buffer ≡ planBuffer
+answers : {t : Tree} → Sound t → {book sheet : List ℕ} → Ready t book sheet → (a b : ℕ) {buffer : List ℕ} → length buffer ≡ planBuffer
     → {answer : Answer} {buffer′ : List ℕ} → PlanSays book sheet a b buffer answer buffer′ → AnswersFor t a b buffer answer buffer′
-answers {t} sound {book} {sheet} holds a b {buffer} room {answer} {buffer′} says = go (rw (held kept) at (unrefused kept says))
+answers {t} sound {book} {sheet} ready a b {buffer} room {answer} {buffer′} says =
+    go (rw (held kept) at (plan-on book sheet (formed kept) (true-sheet kept) a b buffer says))
   where
     kept : Kept t book sheet
-    kept = record { written = holds .written; sound = sound; filled = holds .filled }
+    kept = record { written = ready .written; sound = sound; filled = ready .filled }
 
     go : InOrder (planRefusals t (rowsOf sheet) a b (length buffer)) (λ k. (answer ≡ refuses k) × (buffer′ ≡ buffer)) (GivesPlan t a b buffer answer buffer′)
         → AnswersFor t a b buffer answer buffer′
-    go (inl stale) = absurd (true-false (stale .0 .1) (holds .fresh (stale .0 .0)))
+    go (inl stale) = absurd (true-false (stale .0 .1) (ready .fresh (stale .0 .0)))
     go (inr (fresh, inl out)) = inl out
     go (inr (fresh, inr (range, inl unused))) = inr (range, inl unused)
     go (inr (fresh, inr (range, inr (used, inl refined)))) = inr (range, inr (used, inl refined))
@@ -182,14 +180,14 @@ demanded sound a b (inr (range, inr (used, inr (plain, inl refused)))) at-a at-b
 demanded sound a b (inr (range, inr (used, inr (plain, inr (way, done))))) at-a at-b = inl (good done)
 
 -- so the answer is what demand 3 asks
-pub answered : {t : Tree} → Sound t → {book sheet : List ℕ} → Holds t book sheet → (a b : ℕ) {buffer : List ℕ} → length buffer ≡ planBuffer
+pub answered : {t : Tree} → Sound t → {book sheet : List ℕ} → Ready t book sheet → (a b : ℕ) {buffer : List ℕ} → length buffer ≡ planBuffer
     → {answer : Answer} {buffer′ : List ℕ} → PlanSays book sheet a b buffer answer buffer′ → Answered t a b buffer answer book sheet buffer′
-answered sound holds a b room says =
-    let given = answers sound holds a b room says in
-    record { holds = holds; answers = given; demanded = demanded sound a b given }
+answered sound ready a b room says =
+    let given = answers sound ready a b room says in
+    record { ready = ready; answers = given; demanded = demanded sound a b given }
 
 -- ---- demand 3
 
 pub demand-3 : Demand3
 demand-3 o streams bytes lent lent-sheet opened-book opened-sheet book sheet opening calls a b at-a at-b buffer room answer buffer′ says =
-    answered (expected-sound (open-sound o) streams bytes) (prepared o streams bytes opening calls) a b room says .demanded at-a at-b
+    answered (expected-sound (open-sound o) (refreshed streams) (refreshed-bytes streams bytes)) (prepared o streams bytes opening calls) a b room says .demanded at-a at-b

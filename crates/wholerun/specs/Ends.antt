@@ -9,10 +9,6 @@ abbrev pub Rising : ℕ → List ℕ → ℕ → Type 0
 Rising from [] to = from ≡ to
 Rising from (e ∷ ends) to = (from ≤ e) × Rising e ends to
 
--- ends are malformed where they do not rise from 0 to the number of bytes
-abbrev pub Malformed : List ℕ → List ℕ → Type 0
-Malformed ends bytes = Rising 0 ends (length bytes) → ⊥
-
 -- the streams that these ends cut the bytes into, from an offset on
 abbrev pub streamsOf : ℕ → List ℕ → List ℕ → List (List ℕ)
 streamsOf from [] bytes = []

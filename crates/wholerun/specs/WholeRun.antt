@@ -2,10 +2,9 @@
 use mathlib.Core.Path.{_≡_}
 use mathlib.Core.Logic.{_⊎_}
 use mathlib.Core.Bool.{true, false}
-use mathlib.Core.Option.{none}
-use mathlib.Core.List.{List, [], _∷_, _++_}
+use mathlib.Core.List.{List, [], _∷_}
 use Prim.Native.Nat.{ℕ}
-use lib.ListN.{length, drop}
+use lib.ListN.{length}
 use Rattle.definitions.specs.Limits.{planBuffer}
 use Rattle.definitions.specs.Tree.{Tree, isState}
 use Rattle.definitions.specs.Costs.{LeastCost}
@@ -14,28 +13,21 @@ use Rattle.definitions.specs.Sheet.{rowsOf}
 use Rattle.definitions.specs.Truth.{TrueSheet}
 use Rattle.definitions.specs.Load.{expected}
 use Rattle.definitions.specs.Open.{Opening, openTree}
-use Rattle.definitions.specs.Answer.{Answer, gives, refuses, refuse, InOrder}
-use Rattle.definitions.specs.Calls.{WrongLength, Plan, stateRefusals}
-use Rattle.definitions.specs.Demand.{GoodPlan, NoWay}
-use Rattle.wholerun.specs.Ends.{Malformed, streamsOf}
+use Rattle.definitions.specs.Answer.{Answer, refuses, asks, wantsLeast, InOrder}
+use Rattle.definitions.specs.Calls.{RightLengths, GivesPlan, stateRefusals}
+use Rattle.definitions.specs.Demand.{refreshed, GoodPlan, NoWay}
+use Rattle.wholerun.specs.Ends.{Rising, streamsOf}
 
--- both lists hold this tree, with nothing stale
-pub record Holds (t : Tree) (book sheet : List ℕ) : Type 0 where
+-- both lists are ready for Plan: they are those of this tree, with nothing stale
+pub record Ready (t : Tree) (book sheet : List ℕ) : Type 0 where
   pub written : book ≡ encode t
   pub filled : TrueSheet t sheet
   pub fresh : (m : ℕ) → rowsOf sheet .stale m ≡ false
 
--- a plan is given: cost and count, and the commands at the front of the buffer, later bytes untouched
-abbrev pub GivesPlan : Tree → ℕ → ℕ → List ℕ → Answer → List ℕ → Type 0
-GivesPlan t a b buffer answer buffer′ =
-    (cost : ℕ) × (list : List ℕ) × Plan t a b cost list
-    × (answer ≡ gives (cost ∷ length list ∷ []))
-    × (buffer′ ≡ list ++ drop (length list) buffer)
-
 -- Plan's answer on a tree, with room for every plan: it refuses 6, 7, 14 or 16, or gives a plan
 abbrev pub AnswersFor : Tree → ℕ → ℕ → List ℕ → Answer → List ℕ → Type 0
 AnswersFor t a b buffer answer buffer′ =
-    InOrder (stateRefusals t a b (refuse 16 (LeastCost t a b none) ∷ []))
+    InOrder (stateRefusals t a b (wantsLeast 16 (LeastCost t a b) ∷ []))
     (λ k. (answer ≡ refuses k) × (buffer′ ≡ buffer)) (GivesPlan t a b buffer answer buffer′)
 
 -- what demand 3 asks of Plan's answer for states a and b
@@ -45,14 +37,21 @@ Demanded t a b answer buffer′ =
 
 -- what is left of the lists and answered, the station being t
 pub record Answered (t : Tree) (a b : ℕ) (buffer : List ℕ) (answer : Answer) (book′ sheet′ buffer′ : List ℕ) : Type 0 where
-  pub holds : Holds t book′ sheet′
+  pub ready : Ready t book′ sheet′
   pub answers : AnswersFor t a b buffer answer buffer′
   pub demanded : Demanded t a b answer buffer′
 
--- The whole run, on every input. It refuses 1 (a wrong length of the book, the sheet or the plan buffer) and 99 (malformed ends; no call
--- of documents 01 and 02 has this number), writing nothing. Else the lists hold the expected station and the answer is Plan's of it.
-abbrev pub RunSays : Opening → List ℕ → List ℕ → List ℕ → List ℕ → ℕ → ℕ → List ℕ → Answer → List ℕ → List ℕ → List ℕ → Type 0
-RunSays opening book sheet bytes ends a b buffer answer book′ sheet′ buffer′ =
-    InOrder (refuse 1 (WrongLength book sheet ⊎ (length buffer ≡ planBuffer → ⊥)) ∷ refuse 99 (Malformed ends bytes) ∷ [])
-    (λ k. (answer ≡ refuses k) × (book′ ≡ book) × (sheet′ ≡ sheet) × (buffer′ ≡ buffer))
-    (Answered (expected (openTree opening) (streamsOf 0 ends bytes)) a b buffer answer book′ sheet′ buffer′)
+-- what the whole run answers: that it ran, with Plan's answer, or a refusal
+pub data Run : Type 0 where
+  ran : (answer : Answer) → Run
+  refused : (number : ℕ) → Run
+
+-- The whole run, on every input. It refuses 1 (a wrong length of the book, the sheet or the plan buffer) and 99 (ends that do not rise from
+-- 0 to the number of bytes; no call of documents 01 and 02 has this number), with nothing changed. Else it ran: the lists hold the expected
+-- station of all the streams, the refresh alone with them, and the answer is Plan's of it.
+abbrev pub RunSays : Opening → List ℕ → List ℕ → List ℕ → List ℕ → ℕ → ℕ → List ℕ → Run → List ℕ → List ℕ → List ℕ → Type 0
+RunSays opening book sheet bytes ends a b buffer run book′ sheet′ buffer′ =
+    InOrder (asks 1 (RightLengths book sheet × (length buffer ≡ planBuffer)) ∷ asks 99 (Rising 0 ends (length bytes)) ∷ [])
+    (λ k. (run ≡ refused k) × (book′ ≡ book) × (sheet′ ≡ sheet) × (buffer′ ≡ buffer))
+    ((answer : Answer) × (run ≡ ran answer)
+    × Answered (expected (openTree opening) (refreshed (streamsOf 0 ends bytes))) a b buffer answer book′ sheet′ buffer′)

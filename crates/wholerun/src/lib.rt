@@ -6,18 +6,23 @@ ghost use Rattle.definitions.specs.Limits.{bookLength, sheetLength};
 ghost use Rattle.definitions.specs.Load.{expected};
 ghost use Rattle.definitions.specs.Open.{openTree};
 ghost use Rattle.definitions.specs.Calls.{OpenSays};
-ghost use Rattle.definitions.specs.Demand.{Loads, refreshAlone};
+ghost use Rattle.definitions.specs.Demand.{Loads, refreshAlone, refreshed};
 ghost use Rattle.book.specs.Decides.{Decides};
-ghost use Rattle.planning.specs.Meaning.{answerOf};
 ghost use Rattle.wholerun.specs.Ends.{Rising, streamsOf};
-ghost use Rattle.wholerun.specs.Meaning.{openingOf};
-ghost use Rattle.wholerun.specs.WholeRun.{Holds, RunSays};
+ghost use Rattle.wholerun.specs.Meaning.{openingOf, runOf};
+ghost use Rattle.wholerun.specs.WholeRun.{Ready, RunSays};
 use planning::PlanAnswer;
 
 // The two ways to open a holding.
 pub enum Opening {
     Fresh,
     Ladder,
+}
+
+// The whole run's answer: that it ran, with Plan's answer; or a refusal's number.
+pub enum RunAnswer {
+    Ran(PlanAnswer),
+    Refused(u32),
 }
 
 // The bytes that Plan is lent.
@@ -75,7 +80,7 @@ fn refresh(book: &mut [u32], sheet: &mut [u32])
 // Opens a holding, loads it stream by stream and refreshes it.
 fn prepare(opening: Opening, book: &mut [u32], sheet: &mut [u32], bytes: &[u8], ends: &[usize])
     requires { ⌜ (length (now book) ≡ bookLength) × (length (now sheet) ≡ sheetLength) × Rising 0 (now ends) (length (now bytes)) ⌝ }
-    ensures { λ _. ⌜ Holds (expected (openTree (openingOf opening)) (streamsOf 0 (now (ends .entry)) (now (bytes .entry)))) (now (book .exit)) (now (sheet .exit)) ⌝ }
+    ensures { λ _. ⌜ Ready (expected (openTree (openingOf opening)) (refreshed (streamsOf 0 (now (ends .entry)) (now (bytes .entry))))) (now (book .exit)) (now (sheet .exit)) ⌝ }
 {
     open(opening, book, sheet);
     load_all(book, sheet, bytes, ends);
@@ -83,7 +88,8 @@ fn prepare(opening: Opening, book: &mut [u32], sheet: &mut [u32], bytes: &[u8], 
 }
 
 // The whole run: opens a holding, does a Load for each of the streams that the ends cut the bytes into and one for a refresh alone, and asks
-// Plan from a to b, with 255 bytes. It refuses 1 (a wrong length) and 99 (malformed ends), writing nothing; else it answers as Plan does.
+// Plan from a to b, with 255 bytes. It refuses 1 (a wrong length) and 99 (malformed ends) with nothing changed; else it ran, and answers
+// what Plan answers, a refusal of Plan's included.
 pub fn whole_run(
     opening: Opening,
     book: &mut [u32],
@@ -93,22 +99,22 @@ pub fn whole_run(
     a: u32,
     b: u32,
     buffer: &mut [u8],
-) -> PlanAnswer
+) -> RunAnswer
     ensures { λ r. ⌜ RunSays (openingOf opening) (now (book .entry)) (now (sheet .entry)) (now (bytes .entry)) (now (ends .entry)) a b (now (buffer .entry))
-        (answerOf r) (now (book .exit)) (now (sheet .exit)) (now (buffer .exit)) ⌝ }
+        (runOf r) (now (book .exit)) (now (sheet .exit)) (now (buffer .exit)) ⌝ }
 {
     if book.len() != book::BOOK {
-        return PlanAnswer::Refused(1);
+        return RunAnswer::Refused(1);
     }
     if sheet.len() != sheet::SHEET {
-        return PlanAnswer::Refused(1);
+        return RunAnswer::Refused(1);
     }
     if buffer.len() != BUFFER {
-        return PlanAnswer::Refused(1);
+        return RunAnswer::Refused(1);
     }
     if !well_ended(ends, bytes.len()) {
-        return PlanAnswer::Refused(99);
+        return RunAnswer::Refused(99);
     }
     prepare(opening, book, sheet, bytes, ends);
-    planning::plan(book, sheet, a, b, buffer)
+    RunAnswer::Ran(planning::plan(book, sheet, a, b, buffer))
 }

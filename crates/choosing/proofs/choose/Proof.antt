@@ -66,13 +66,13 @@ slice-aggregate-result-3 : tie.Need-slice-aggregate-result-3
 slice-aggregate-result-3 c = search needs
 
 returns : tie.Need-returns
-returns c = (first (c .before .before .n .given .0 .0), says-first (c .before .before), refl)
+returns c = (first (c .before .before .n .given .0 .0), says-first (c .before .before), refl, refl)
 
 returns-2 : tie.Need-returns-2
-returns-2 c = (second (c .before .before .n2 .given .0 .0), says-second (c .before .before), refl)
+returns-2 c = (second (c .before .before .n2 .given .0 .0), says-second (c .before .before), refl, refl)
 
 returns-3 : tie.Need-returns-3
-returns-3 c = (first 0, says-refused (c .before .before), refl)
+returns-3 c = (first 0, says-refused (c .before .before), refl, refl)
 
 pub choose-spec : {M : Type 1} → statement M
 choose-spec =

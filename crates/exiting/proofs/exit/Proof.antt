@@ -1,5 +1,4 @@
 -- `exiting::exit` meets its contract: each way out shows its refusal, or that none holds. Assumes nothing.
-use mathlib.Core.Logic.{inl, inr}
 use native.Mathlib.Omega.{arith}
 use borrow.Author.Needs.{needs}
 use denote.Ref.{now}
@@ -13,12 +12,12 @@ use Rattle.exiting.proofs.exit.Tie as tie
 returns : tie.Need-returns
 returns c =
     let e = c .before .before .before in
-    says-length (now (e .args .book)) (now (e .args .sheet)) (e .args .machine) (e .args .command) (inl (c .if1 .taken))
+    says-length (now (e .args .book)) (now (e .args .sheet)) (e .args .machine) (e .args .command) (λ right. c .if1 .taken (right .0))
 
 returns-2 : tie.Need-returns-2
 returns-2 c =
     let e = c .before .before .before .before in
-    says-length (now (e .args .book)) (now (e .args .sheet)) (e .args .machine) (e .args .command) (inr (c .if2 .taken))
+    says-length (now (e .args .book)) (now (e .args .sheet)) (e .args .machine) (e .args .command) (λ right. c .if2 .taken (right .1))
 
 well-formed-requires : tie.Need-well-formed-requires
 well-formed-requires c κs = search needs
@@ -28,7 +27,7 @@ returns-3 c =
     let k = c .before in
     let l = k .before in
     let e = l .before .before .before .before in
-    says-torn (now (e .args .book)) (now (e .args .sheet)) (e .args .machine) (e .args .command) (l .before .if1 .left) (l .if2 .left)
+    says-torn (now (e .args .book)) (now (e .args .sheet)) (e .args .machine) (e .args .command) (l .before .if1 .left, l .if2 .left)
     (refused (k .well-formed .result) (k .well-formed .ensures) (c .if3 .taken))
 
 -- the book is well formed past the third test

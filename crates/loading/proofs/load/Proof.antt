@@ -1,5 +1,4 @@
 -- `loading::load` meets its contract: each way out shows its refusal, or that none holds and the stream is run. Assumes nothing.
-use mathlib.Core.Logic.{inl, inr}
 use denote.Ref.{now}
 use Rattle.definitions.specs.Book.{treeOf, WellFormed}
 use Rattle.definitions.specs.Truth.{TrueSheet}
@@ -15,7 +14,7 @@ refused-requires c κs = search needs
 returns : tie.Need-returns
 returns c =
     let a = c .before .before .before .before .before .args in
-    says-length (now (a .book)) (now (a .sheet)) (now (a .stream)) (inl (c .before .if1 .taken)) (c .refused .ensures)
+    says-length (now (a .book)) (now (a .sheet)) (now (a .stream)) (λ right. c .before .if1 .taken (right .0)) (c .refused .ensures)
 
 refused-requires-2 : tie.Need-refused-requires-2
 refused-requires-2 c κs = search needs
@@ -23,7 +22,7 @@ refused-requires-2 c κs = search needs
 returns-2 : tie.Need-returns-2
 returns-2 c =
     let a = c .before .before .before .before .before .before .args in
-    says-length (now (a .book)) (now (a .sheet)) (now (a .stream)) (inr (c .before .if2 .taken)) (c .refused2 .ensures)
+    says-length (now (a .book)) (now (a .sheet)) (now (a .stream)) (λ right. c .before .if2 .taken (right .1)) (c .refused2 .ensures)
 
 well-formed-requires : tie.Need-well-formed-requires
 well-formed-requires c κs = search needs
@@ -38,7 +37,7 @@ returns-3 : tie.Need-returns-3
 returns-3 c =
     let w = c .before .before in
     let a = w .before .before .before .before .before .before .before .args in
-    says-torn (now (a .book)) (now (a .sheet)) (now (a .stream)) (w .before .before .before .if1 .left) (w .before .before .if2 .left)
+    says-torn (now (a .book)) (now (a .sheet)) (now (a .stream)) (w .before .before .before .if1 .left, w .before .before .if2 .left)
     (refused (w .well-formed .result) (w .well-formed .ensures) (c .before .if3 .taken)) (c .refused3 .ensures)
 
 -- the book is well formed past the third test, and the sheet is true past the fourth

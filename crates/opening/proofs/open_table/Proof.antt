@@ -11,12 +11,12 @@ use Rattle.opening.proofs.open_table.Tie as tie
 returns : tie.Need-returns
 returns c =
     let a = c .before .before .before .before .args in
-    refused (rowTree (now (a .rows))) (now (a .book)) (now (a .sheet)) (inl (λ e. omega arith))
+    refused (rowTree (now (a .rows))) (now (a .book)) (now (a .sheet)) (λ right. omega (arith, right .0))
 
 returns-2 : tie.Need-returns-2
 returns-2 c =
     let a = c .before .before .before .before .before .args in
-    refused (rowTree (now (a .rows))) (now (a .book)) (now (a .sheet)) (inr (λ e. omega arith))
+    refused (rowTree (now (a .rows))) (now (a .book)) (now (a .sheet)) (λ right. omega (arith, right .1))
 
 open-rows-requires : tie.Need-open-rows-requires
 open-rows-requires c κs = search needs

@@ -1,7 +1,6 @@
 -- `planning::plan` meets its contract: each way out shows its refusal, or that none holds. Assumes nothing.
 use mathlib.Core.Path.{_≡_}
-use mathlib.Core.Logic.{inl, inr}
-use mathlib.Core.Bool.{true}
+use mathlib.Core.Bool.{false}
 use Prim.Native.Nat.{ℕ}
 use native.Mathlib.Omega.{arith}
 use borrow.Author.Needs.{needs}
@@ -19,12 +18,12 @@ use Rattle.planning.proofs.plan.Tie as tie
 returns : tie.Need-returns
 returns c =
     let a = c .before .before .before .before .args in
-    says-length (now (a .book)) (now (a .sheet)) (a .a) (a .b) (now (a .buffer)) (inl (c .if1 .taken))
+    says-length (now (a .book)) (now (a .sheet)) (a .a) (a .b) (now (a .buffer)) (λ right. c .if1 .taken (right .0))
 
 returns-2 : tie.Need-returns-2
 returns-2 c =
     let a = c .before .before .before .before .before .args in
-    says-length (now (a .book)) (now (a .sheet)) (a .a) (a .b) (now (a .buffer)) (inr (c .if2 .taken))
+    says-length (now (a .book)) (now (a .sheet)) (a .a) (a .b) (now (a .buffer)) (λ right. c .if2 .taken (right .1))
 
 well-formed-requires : tie.Need-well-formed-requires
 well-formed-requires c κs = search needs
@@ -34,7 +33,7 @@ returns-3 c =
     let k = c .before in
     let l = k .before in
     let a = l .before .before .before .before .before .args in
-    says-torn (now (a .book)) (now (a .sheet)) (a .a) (a .b) (now (a .buffer)) (l .before .if1 .left) (l .if2 .left)
+    says-torn (now (a .book)) (now (a .sheet)) (a .a) (a .b) (now (a .buffer)) (l .before .if1 .left, l .if2 .left)
     (refused (k .well-formed .result) (k .well-formed .ensures) (c .if3 .taken))
 
 -- the book is well formed past the third test
@@ -68,8 +67,11 @@ returns-5 c =
     (holds (k .any-stale .result) (k .any-stale .ensures) (c .if5 .taken))
 
 -- nothing is stale past the fifth
-fresh : (c : tie.Else5) → (m : ℕ) × (rowsOf (now (c .before .before .before .before .before .before .before .before .before .before .before .args .sheet)) .stale m ≡ true) → ⊥
-fresh c = fails (c .before .any-stale .result) (c .before .any-stale .ensures) (c .if5 .left)
+fresh : (c : tie.Else5) (m : ℕ)
+    → rowsOf (now (c .before .before .before .before .before .before .before .before .before .before .before .args .sheet)) .stale m ≡ false
+fresh c =
+    none-stale (now (c .before .before .before .before .before .before .before .before .before .before .before .args .sheet))
+    (fails (c .before .any-stale .result) (c .before .any-stale .ensures) (c .if5 .left))
 
 judge-states-requires : tie.Need-judge-states-requires
 judge-states-requires c κs = formed (c .before .before .before .before)
@@ -114,7 +116,7 @@ make-plan-requires c κs =
     record {
       formed = formed (s .before .before);
       true-sheet = is-true s;
-      fresh = none-stale (now (s .before .before .before .before .before .before .before .before .before .args .sheet)) (fresh f);
+      fresh = fresh f;
       used-a = both .used .0;
       plain-a = both .plain .0;
       used-b = both .used .1;

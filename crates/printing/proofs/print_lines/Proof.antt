@@ -1,4 +1,5 @@
--- `printing::print_lines` ends: each turn goes on further in the input, on a well-formed book and a true sheet. Assumes nothing.
+-- `printing::print_lines` meets its contract: each turn goes on further in the input, on a well-formed book and a true sheet, and has one line
+-- more; at the end the turns made are all of them. Assumes nothing.
 use mathlib.Core.Path.{_≡_, refl, sym, _∙_}
 use Prim.Native.Nat.{_-_}
 use native.Mathlib.Omega.{arith}
@@ -6,17 +7,20 @@ use denote.Ref.{now}
 use lib.ListN.{length}
 use lib.Seq.{length-take-le}
 use borrow.Author.Needs.{needs}
+use Rattle.definitions.specs.Book.{treeOf}
+use Rattle.definitions.specs.Sheet.{rowsOf}
 use Rattle.lines.specs.Meaning.{longestLine, TurnSays}
 use Rattle.lines.specs.declared.Turn.the-variants.{Line, End}
-use Rattle.printing.proofs.Runs.{Running, run-starts, run-on, turn-told}
+use Rattle.printing.proofs.Runs.{Running, run-starts, run-on, run-over, turn-told}
 use Rattle.printing.proofs.print_lines.Statement.{statement}
 use Rattle.printing.proofs.print_lines.Tie as tie
 
 abbrev Inv-loop : tie.InvT-loop
-Inv-loop book₀ sheet₀ input line₀ at₀ book sheet line at = (length line ≡ longestLine) × Running input at book sheet
+Inv-loop book₀ sheet₀ input line₀ at₀ count₀ book sheet line at count =
+    (length line ≡ longestLine) × Running input (treeOf book₀) (rowsOf sheet₀) count at book sheet
 
 abbrev μ-loop : tie.MeasureT-loop
-μ-loop book₀ sheet₀ input line₀ at₀ book sheet line at = length input - at
+μ-loop book₀ sheet₀ input line₀ at₀ count₀ book sheet line at count = length input - at
 
 loop-holds : tie.Need-loop-holds Inv-loop μ-loop
 loop-holds c = let p = c .before .before .before .pre in (refl, run-starts (p .0) (p .1))
@@ -50,11 +54,23 @@ slice-aggregate-write-all c =
 write-all-requires : tie.Need-write-all-requires Inv-loop μ-loop
 write-all-requires c κs = search needs
 
+-- what held before that turn
+before-told : (c : tie.After-known-told Inv-loop μ-loop)
+    → let e = c .before .before .before .before .before .before .before .before .before .before .before .before .before .before .before .before in
+    let l = c .before .before .before .before .before .before .before .before .before .before .before .before .loop in
+    Running (now (e .args .input)) (treeOf (now (e .args .book))) (rowsOf (now (e .args .sheet))) (l .count) (l .at) (l .book) (l .sheet)
+before-told c = c .before .before .before .before .before .before .before .before .before .before .before .before .loop .inv .1
+
+add-count : tie.Need-add-count Inv-loop μ-loop
+add-count c =
+    let t = c .before .before in
+    omega (arith, before-told t .few, before-told t .within, t .before .before .before .before .before .before .before .before .before .before .before .before .before .before .before .before .good)
+
 loop-less : tie.Need-loop-less Inv-loop μ-loop
 loop-less c = omega (arith, told (c .before .before) .fits)
 
 loop-again : tie.Need-loop-again Inv-loop μ-loop
-loop-again c = (c .before .before .before .before .before .before .before .before .before .before .next-line .kept .1 .1 .1 .1 .0 ∙ c .before .before .before .before .before .before .before .before .before .before .before .before .before .before .loop .inv .0, run-on (told (c .before .before)))
+loop-again c = (c .before .before .before .before .before .before .before .before .before .before .next-line .kept .1 .1 .1 .1 .0 ∙ c .before .before .before .before .before .before .before .before .before .before .before .before .before .before .loop .inv .0, run-on (before-told (c .before .before)) (told (c .before .before)))
 
 enum-told : tie.Need-enum-told Inv-loop μ-loop
 enum-told c = search needs
@@ -73,7 +89,7 @@ same-length-2 : tie.Need-same-length-2 Inv-loop μ-loop
 same-length-2 c = last c .filled .length ∙ sym (c .before .before .before .before .before .before .before .before .before .before .before .before .before .before .before .pre .1 .length)
 
 returns : tie.Need-returns Inv-loop μ-loop
-returns c = search needs
+returns c = run-over (c .before .before .before .before .before .before .before .before .before .before .before .loop .inv .1) (last c)
 
 pub print-lines-spec : {M : Type 1} → statement M
 print-lines-spec =
@@ -88,6 +104,7 @@ print-lines-spec =
     array-share-prefix-line
     slice-aggregate-write-all
     write-all-requires
+    add-count
     loop-less
     loop-again
     enum-told

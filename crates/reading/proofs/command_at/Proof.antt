@@ -1,13 +1,13 @@
 -- `reading::command_at` meets its contract: the end, an unknown opcode, a command cut short, or a command. Assumes nothing.
-use mathlib.Core.Path.{_≡_, sym, _∙_, ap}
+use mathlib.Core.Path.{_≡_, sym, _∙_, ap, subst}
 use mathlib.Core.Option.{some}
-use Prim.Native.Nat.{_+_}
 use native.Mathlib.Omega.{arith}
 use denote.Ref.{now}
 use borrow.Author.Needs.{needs}
-use Rattle.definitions.specs.Stream.{taken, operandLength}
-use Rattle.reading.specs.Meaning.{operandsOf}
-use Rattle.reading.proofs.Laws.{next-ended, next-unknown, next-cut, next-whole}
+use Rattle.definitions.specs.Stream.{operandLength}
+use Rattle.definitions.proofs.Options.{some-same}
+use Rattle.reading.specs.Meaning.{operandsOf, decodedOf, NarrowDecoded}
+use Rattle.reading.proofs.Laws.{next-ended, next-unknown, next-cut, next-whole, never-undecoded}
 use Rattle.reading.proofs.command_at.Statement.{statement}
 use Rattle.reading.proofs.command_at.Tie as tie
 
@@ -59,20 +59,38 @@ returns-3 c =
 decode-requires : tie.Need-decode-requires
 decode-requires c κs =
     let z = c .before .before in
-    record { operands = z .size .given .0 .0; known = sym (known z); there = omega arith }
+    λ k e. omega (arith, some-same e (sym (known z)))
 
-add-t5 : tie.Need-add-t5
-add-t5 c = search needs
+enum-known-command : tie.Need-enum-known-command
+enum-known-command c = search needs
 
+enum-told-2 : tie.Need-enum-told-2
+enum-told-2 c = search needs
+
+-- what `decode` says of an opcode that is known
 returns-4 : tie.Need-returns-4
 returns-4 c =
-    let z = c .before .before .before in
+    let d = c .before .before in
+    let z = d .before .before .before in
     let b = z .before .before .before in
     let a = b .before .before .before .args in
+    let missing = ap decodedOf (sym (c .enum-told2 .given .1)) ∙ d .decode .ensures .0 in
+    absurd (never-undecoded (now (a .stream)) (a .taken) (b .byte .ensures .0) (b .before .if1 .left) (known z) missing)
+
+add-t6 : tie.Need-add-t6
+add-t6 c = search needs
+
+returns-5 : tie.Need-returns-5
+returns-5 c =
+    let k = c .before in
+    let d = k .before .before in
+    let z = d .before .before .before in
+    let b = z .before .before .before in
+    let a = b .before .before .before .args in
+    let says = ap decodedOf (sym (k .command .given .1)) ∙ d .decode .ensures .0 in
     record {
-      next = ap (λ d. taken d (1 + z .size .given .0 .0)) (c .decode .ensures .0)
-          ∙ next-whole (now (a .stream)) (a .taken) (b .byte .ensures .0) (b .before .if1 .left) (known z) (c .before .if2 .left);
-      narrow = c .decode .ensures .1;
+      next = next-whole (now (a .stream)) (a .taken) (b .byte .ensures .0) (b .before .if1 .left) (known z) (d .before .if2 .left) says;
+      narrow = subst NarrowDecoded (k .command .given .1) (d .decode .ensures .1);
     }
 
 pub command-at-spec : {M : Type 1} → statement M
@@ -88,5 +106,8 @@ command-at-spec =
     sub-if2
     returns-3
     decode-requires
-    add-t5
-    returns-4)
+    enum-known-command
+    enum-told-2
+    returns-4
+    add-t6
+    returns-5)

@@ -1,84 +1,85 @@
 -- `reading::decode` meets its contract: the opcode says which operands there are, and they are there. Assumes nothing.
-use mathlib.Core.Path.{ap}
+use mathlib.Core.Path.{sym, ap}
 use native.Mathlib.Omega.{arith}
 use denote.Ref.{now}
 use Prim.Native.Nat.{_+_}
 use lib.ListN.{drop}
 use Rattle.definitions.specs.Stream.{operandLength, decode}
-use Rattle.reading.proofs.Laws.{room, left-over}
+use Rattle.definitions.proofs.Streams.{unknown-undecoded}
+use Rattle.reading.proofs.Laws.{unknown}
 use Rattle.reading.proofs.decode.Statement.{statement}
 use Rattle.reading.proofs.decode.Tie as tie
 
 operand-requires : tie.Need-operand-requires
 unfolding operandLength
-operand-requires c κs = omega (arith, room (c .before .before .pre) 3 (ap operandLength (c .match .keys1)))
+operand-requires c κs = omega (arith, c .before .before .pre 3 (ap operandLength (c .match .keys1)))
 
 operand-pair-requires : tie.Need-operand-pair-requires
 unfolding operandLength
-operand-pair-requires c κs = omega (arith, room (c .before .before .before .pre) 3 (ap operandLength (c .before .match .keys1)))
+operand-pair-requires c κs = omega (arith, c .before .before .before .pre 3 (ap operandLength (c .before .match .keys1)))
 
 operand-requires-2 : tie.Need-operand-requires-2
 unfolding operandLength
-operand-requires-2 c κs = omega (arith, room (c .before .before .pre) 3 (ap operandLength (c .match .keys2)))
+operand-requires-2 c κs = omega (arith, c .before .before .pre 3 (ap operandLength (c .match .keys2)))
 
 operand-pair-requires-2 : tie.Need-operand-pair-requires-2
 unfolding operandLength
-operand-pair-requires-2 c κs = omega (arith, room (c .before .before .before .pre) 3 (ap operandLength (c .before .match .keys2)))
+operand-pair-requires-2 c κs = omega (arith, c .before .before .before .pre 3 (ap operandLength (c .before .match .keys2)))
 
 operand-pair-requires-3 : tie.Need-operand-pair-requires-3
 unfolding operandLength
-operand-pair-requires-3 c κs = omega (arith, room (c .before .before .pre) 5 (ap operandLength (c .match .keys3)))
+operand-pair-requires-3 c κs = omega (arith, c .before .before .pre 5 (ap operandLength (c .match .keys3)))
 
 operand-requires-3 : tie.Need-operand-requires-3
 unfolding operandLength
-operand-requires-3 c κs = omega (arith, room (c .before .before .before .pre) 5 (ap operandLength (c .before .match .keys3)))
+operand-requires-3 c κs = omega (arith, c .before .before .before .pre 5 (ap operandLength (c .before .match .keys3)))
 
 operand-pair-requires-4 : tie.Need-operand-pair-requires-4
 unfolding operandLength
 operand-pair-requires-4 c κs =
-    omega (arith, room (c .before .before .before .before .pre) 5 (ap operandLength (c .before .before .match .keys3)))
+    omega (arith, c .before .before .before .before .pre 5 (ap operandLength (c .before .before .match .keys3)))
 
 operand-pair-requires-5 : tie.Need-operand-pair-requires-5
 unfolding operandLength
-operand-pair-requires-5 c κs = omega (arith, room (c .before .before .pre) 2 (ap operandLength (c .match .keys4)))
+operand-pair-requires-5 c κs = omega (arith, c .before .before .pre 2 (ap operandLength (c .match .keys4)))
 
 operand-pair-requires-6 : tie.Need-operand-pair-requires-6
 unfolding operandLength
-operand-pair-requires-6 c κs = omega (arith, room (c .before .before .pre) 7 (ap operandLength (c .match .keys5)))
+operand-pair-requires-6 c κs = omega (arith, c .before .before .pre 7 (ap operandLength (c .match .keys5)))
 
 operand-requires-4 : tie.Need-operand-requires-4
 unfolding operandLength
-operand-requires-4 c κs = omega (arith, room (c .before .before .before .pre) 7 (ap operandLength (c .before .match .keys5)))
+operand-requires-4 c κs = omega (arith, c .before .before .before .pre 7 (ap operandLength (c .before .match .keys5)))
 
 operand-pair-requires-7 : tie.Need-operand-pair-requires-7
 unfolding operandLength
 operand-pair-requires-7 c κs =
-    omega (arith, room (c .before .before .before .before .pre) 7 (ap operandLength (c .before .before .match .keys5)))
+    omega (arith, c .before .before .before .before .pre 7 (ap operandLength (c .before .before .match .keys5)))
 
 operand-pair-requires-8 : tie.Need-operand-pair-requires-8
 unfolding operandLength
 operand-pair-requires-8 c κs =
-    omega (arith, room (c .before .before .before .before .before .pre) 7 (ap operandLength (c .before .before .before .match .keys5)))
+    omega (arith, c .before .before .before .before .before .pre 7 (ap operandLength (c .before .before .before .match .keys5)))
 
 operand-pair-requires-9 : tie.Need-operand-pair-requires-9
 unfolding operandLength
-operand-pair-requires-9 c κs = omega (arith, room (c .before .before .pre) 3 (ap operandLength (c .match .keys6)))
+operand-pair-requires-9 c κs = omega (arith, c .before .before .pre 3 (ap operandLength (c .match .keys6)))
 
 operand-requires-5 : tie.Need-operand-requires-5
 unfolding operandLength
-operand-requires-5 c κs = omega (arith, room (c .before .before .before .pre) 3 (ap operandLength (c .before .match .keys6)))
+operand-requires-5 c κs = omega (arith, c .before .before .before .pre 3 (ap operandLength (c .before .match .keys6)))
 
 operand-pair-requires-10 : tie.Need-operand-pair-requires-10
 unfolding operandLength
-operand-pair-requires-10 c κs = omega (arith, room (c .before .before .pre) 2 (ap operandLength (c .match .keys7)))
+operand-pair-requires-10 c κs = omega (arith, c .before .before .pre 2 (ap operandLength (c .match .keys7)))
 
 operand-requires-6 : tie.Need-operand-requires-6
 unfolding operandLength
-operand-requires-6 c κs = omega (arith, room (c .before .before .pre) 3 (ap operandLength (c .match .keys8)))
+operand-requires-6 c κs = omega (arith, c .before .before .pre 3 (ap operandLength (c .match .keys8)))
 
 operand-pair-requires-11 : tie.Need-operand-pair-requires-11
 unfolding operandLength
-operand-pair-requires-11 c κs = omega (arith, room (c .before .before .before .pre) 3 (ap operandLength (c .before .match .keys8)))
+operand-pair-requires-11 c κs = omega (arith, c .before .before .before .pre 3 (ap operandLength (c .before .match .keys8)))
 
 returns : tie.Need-returns
 unfolding decode
@@ -139,13 +140,17 @@ returns-8 c =
     (rw (c .before .before .match .keys8, machine .0, node .0), (machine .1, node .1))
 
 returns-9 : tie.Need-returns-9
-returns-9 c =
+unfolding decode
+returns-9 c = (rw (c .match .keys9), tt)
+
+returns-10 : tie.Need-returns-10
+returns-10 c =
     let r = c .match .rest in
     let a = c .before .before .args in
-    let none-such =
-    left-over (a .op) (drop (a .at + 1) (now (a .stream))) (r .0 .0 .0 .0 .0 .0 .0 .1) (r .0 .0 .0 .0 .0 .0 .1)
-    (r .0 .0 .0 .0 .0 .1) (r .0 .0 .0 .0 .1) (r .0 .0 .0 .1) (r .0 .0 .1) (r .0 .1) (r .1) in
-    (none-such, tt)
+    let none-known =
+    unknown (a .op) (r .0 .0 .0 .0 .0 .0 .0 .0 .1) (r .0 .0 .0 .0 .0 .0 .0 .1) (r .0 .0 .0 .0 .0 .0 .1) (r .0 .0 .0 .0 .0 .1)
+    (r .0 .0 .0 .0 .1) (r .0 .0 .0 .1) (r .0 .0 .1) (r .0 .1) (r .1) in
+    (sym (unknown-undecoded (a .op) (drop (a .at + 1) (now (a .stream))) none-known), tt)
 
 pub decode-spec : {M : Type 1} → statement M
 decode-spec =
@@ -176,4 +181,5 @@ decode-spec =
     returns-6
     returns-7
     returns-8
-    returns-9)
+    returns-9
+    returns-10)

@@ -36,7 +36,7 @@ returns c =
     let bytes = all-bytes (now (e .args .bytes)) (λ i. omega (arith, known .shared-slice-known .given i)) in
     prepared (openingOf (e .args .opening)) (streamsOf 0 (now (e .args .ends)) (now (e .args .bytes)))
     (streams-bytes 0 (now (e .args .ends)) (now (e .args .bytes)) bytes)
-    (opens (openTree (openingOf (e .args .opening))) (now (e .args .book)) (now (e .args .sheet)) (e .pre .0) (e .pre .1) (first .open .ensures))
+    (opens (openTree (openingOf (e .args .opening))) (now (e .args .book)) (now (e .args .sheet)) (e .pre .0, e .pre .1) (first .open .ensures))
     (loads-both (all .load-all .ensures) (last .refresh .ensures))
 
 pub prepare-spec : {M : Type 1} → statement M

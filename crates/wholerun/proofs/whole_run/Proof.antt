@@ -1,15 +1,15 @@
 -- `wholerun::whole_run` meets its contract: each way out shows its refusal, or that none holds and demand 3 is met. Assumes nothing.
-use mathlib.Core.Logic.{inl, inr}
 use native.Mathlib.Omega.{arith}
 use lib.ListN.{length}
 use denote.Ref.{now}
+use Rattle.definitions.specs.Demand.{refreshed}
 use Rattle.definitions.proofs.Kept.{expected-sound}
 use Rattle.definitions.proofs.Opened.{open-sound}
 use Rattle.book.proofs.Decide.{passed, refused}
 use Rattle.wholerun.specs.Ends.{Rising, streamsOf}
 use Rattle.wholerun.specs.Meaning.{openingOf}
 use Rattle.wholerun.proofs.Streams.{all-bytes, streams-bytes}
-use Rattle.wholerun.proofs.Demand3.{answered}
+use Rattle.wholerun.proofs.Demand3.{refreshed-bytes, answered}
 use Rattle.wholerun.proofs.Says.{says-length, says-malformed, says-answered}
 use borrow.Author.Needs.{needs}
 use Rattle.wholerun.proofs.whole_run.Statement.{statement}
@@ -18,17 +18,20 @@ use Rattle.wholerun.proofs.whole_run.Tie as tie
 returns : tie.Need-returns
 returns c =
     let e = c .before .before .before .before .before .before in
-    says-length (openingOf (e .args .opening)) (now (e .args .book)) (now (e .args .sheet)) (now (e .args .bytes)) (now (e .args .ends)) (e .args .a) (e .args .b) (now (e .args .buffer)) (inl (inl (c .if1 .taken)))
+    says-length (openingOf (e .args .opening)) (now (e .args .book)) (now (e .args .sheet)) (now (e .args .bytes)) (now (e .args .ends)) (e .args .a) (e .args .b) (now (e .args .buffer)) 
+    (λ right. c .if1 .taken (right .0 .0))
 
 returns-2 : tie.Need-returns-2
 returns-2 c =
     let e = c .before .before .before .before .before .before .before in
-    says-length (openingOf (e .args .opening)) (now (e .args .book)) (now (e .args .sheet)) (now (e .args .bytes)) (now (e .args .ends)) (e .args .a) (e .args .b) (now (e .args .buffer)) (inl (inr (c .if2 .taken)))
+    says-length (openingOf (e .args .opening)) (now (e .args .book)) (now (e .args .sheet)) (now (e .args .bytes)) (now (e .args .ends)) (e .args .a) (e .args .b) (now (e .args .buffer)) 
+    (λ right. c .if2 .taken (right .0 .1))
 
 returns-3 : tie.Need-returns-3
 returns-3 c =
     let e = c .before .before .before .before .before .before .before .before in
-    says-length (openingOf (e .args .opening)) (now (e .args .book)) (now (e .args .sheet)) (now (e .args .bytes)) (now (e .args .ends)) (e .args .a) (e .args .b) (now (e .args .buffer)) (inr (c .if3 .taken))
+    says-length (openingOf (e .args .opening)) (now (e .args .book)) (now (e .args .sheet)) (now (e .args .bytes)) (now (e .args .ends)) (e .args .a) (e .args .b) (now (e .args .buffer)) 
+    (λ right. c .if3 .taken (right .1))
 
 well-ended-requires : tie.Need-well-ended-requires
 well-ended-requires c κs = search needs
@@ -39,7 +42,7 @@ returns-4 c =
     let room = w .before in
     let e = room .before .before .before .before .before .before .before .before in
     says-malformed (openingOf (e .args .opening)) (now (e .args .book)) (now (e .args .sheet)) (now (e .args .bytes)) (now (e .args .ends)) (e .args .a) (e .args .b) (now (e .args .buffer))
-    (room .before .before .if1 .left) (room .before .if2 .left) (room .if3 .left)
+    ((room .before .before .if1 .left, room .before .if2 .left), room .if3 .left)
     (refused (w .well-ended .result) (w .well-ended .ensures) (c .if4 .taken))
 
 -- the ends are well formed past the fourth test
@@ -73,9 +76,12 @@ returns-5 c =
     let known = room .before .before .before .before .before in
     let e = known .before .before .before in
     let bytes = all-bytes (now (e .args .bytes)) (λ i. omega (arith, known .shared-slice-known .given i)) in
-    let sound = expected-sound (open-sound (openingOf (e .args .opening))) (streamsOf 0 (now (e .args .ends)) (now (e .args .bytes))) (streams-bytes 0 (now (e .args .ends)) (now (e .args .bytes)) bytes) in
+    let streams = streamsOf 0 (now (e .args .ends)) (now (e .args .bytes)) in
+    let sound =
+    expected-sound (open-sound (openingOf (e .args .opening))) (refreshed streams)
+    (refreshed-bytes streams (streams-bytes 0 (now (e .args .ends)) (now (e .args .bytes)) bytes)) in
     says-answered (openingOf (e .args .opening)) (now (e .args .book)) (now (e .args .sheet)) (now (e .args .bytes)) (now (e .args .ends)) (e .args .a) (e .args .b) (now (e .args .buffer))
-    (room .before .before .if1 .left) (room .before .if2 .left) (room .if3 .left) (rising r)
+    ((room .before .before .if1 .left, room .before .if2 .left), room .if3 .left) (rising r)
     (answered sound (held .prepare .ensures) (e .args .a) (e .args .b) (room .if3 .left) (asked .plan .ensures))
 
 pub whole-run-spec : {M : Type 1} → statement M

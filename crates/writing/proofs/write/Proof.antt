@@ -22,7 +22,7 @@ well-formed-requires c κs = search needs
 returns-2 : tie.Need-returns-2
 returns-2 c =
     let f = c .before in
-    inr (λ wrong. wrong (f .before .if1 .left), inl (refused (f .well-formed .result) (f .well-formed .ensures) (c .if2 .taken), (refl, refl)))
+    inr (f .before .if1 .left, inl (refused (f .well-formed .result) (f .well-formed .ensures) (c .if2 .taken), (refl, refl)))
 
 has-room-requires : tie.Need-has-room-requires
 has-room-requires c κs =
@@ -36,10 +36,7 @@ returns-3 c =
     let f = g .before in
     let well = passed (f .well-formed .result) (f .well-formed .ensures) (g .if2 .left) in
     let short = refused (n .has-room .result) (n .has-room .ensures) (c .if3 .taken) in
-    inr (
-      λ wrong. wrong (f .before .if1 .left),
-      inr (λ bad. bad well, inl (omega (arith, short), (refl, refl))),
-    )
+    inr (f .before .if1 .left, inr (well, inl (omega (arith, short), (refl, refl))))
 
 write-stream-requires : tie.Need-write-stream-requires
 write-stream-requires c κs =
@@ -70,10 +67,7 @@ returns-4 c =
     let well = passed (f .well-formed .result) (f .well-formed .ensures) (g .if2 .left) in
     let fits = passed (n .has-room .result) (n .has-room .ensures) (w .before .before .if3 .left) in
     let (count, bytes) = w .write-stream .ensures in
-    inr (
-      λ wrong. wrong (f .before .if1 .left),
-      inr (λ bad. bad well, inr (λ small. omega (arith, fits, small), (ap (λ (k : ℕ). gives (k ∷ [])) count, bytes))),
-    )
+    inr (f .before .if1 .left, inr (well, inr (fits, (ap (λ (k : ℕ). gives (k ∷ [])) count, bytes))))
 
 pub write-spec : {M : Type 1} → statement M
 write-spec =
