@@ -35,6 +35,12 @@ extern "C" {
 #endif
 
 /*
+** The version of this header, raised where a signature or a size changes. Sizes are exact, so a program and the library that it links
+** must be of one version.
+*/
+#define HIMM_VERSION 1
+
+/*
 ** Limits. A machine, a node and a command are numbers from 0, each under its limit; a cost of a transition is at most
 ** HIMM_LARGEST_COST. The root is at level 1 and no machine is lower than level HIMM_LEVELS.
 */

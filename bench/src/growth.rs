@@ -1,6 +1,7 @@
 //! How costs grow: by states, by levels, by edits, by the length of a stream.
 
-use crate::holding::Holding;
+use crate::holding::{then_refresh, Holding};
+use crate::library::Library;
 use crate::rows::Agreement;
 use crate::timing::{medians, print_head, print_row, timed, Times, Work};
 use himm_model::flat::Flat;
@@ -16,7 +17,7 @@ const HEADS: [&str; 7] = ["plan", "checks", "all stale", "one edit", "load", "fl
 /// flat side.
 fn row(name: &str, holding: &Holding, agreement: &mut Agreement) {
     let (pairs, edits, stale, stream) = (holding.pairs(ROUNDS), edits(holding, 1), holding.stale(), holding.stream());
-    let (fresh, flat) = (Holding::fresh(), Flat::of(&holding.book));
+    let (fresh, flat) = (Holding::fresh(holding.library), Flat::of(&holding.book));
     let search = |i: usize| flat.search(pairs[i].0 as usize, pairs[i].1 as usize).map(|way| way.cost);
     let (mut ours, mut theirs) = (vec![], vec![]);
     let times = medians(
@@ -37,24 +38,26 @@ fn row(name: &str, holding: &Holding, agreement: &mut Agreement) {
 
 /// For each round a stream of so many edits and a refresh.
 fn edits(holding: &Holding, count: usize) -> Vec<Vec<u8>> {
-    (0..ROUNDS as u64).map(|seed| [holding.edits(count, seed).concat(), vec![himm::REFRESH]].concat()).collect()
+    (0..ROUNDS as u64).map(|seed| then_refresh(&holding.edits(count, seed).concat())).collect()
 }
 
-pub fn by_states(agreement: &mut Agreement) {
+/// Twice the nodes in twice the machines, row by row.
+pub fn by_states(library: &'static Library, agreement: &mut Agreement) {
     print_head("by states", &HEADS);
     for nodes in [16, 32, 64, 128, NODES] {
         let shape = Shape { machines: nodes / 4, nodes, filled: 60, ..Shape::full() };
-        let holding = Holding::random(40, &shape);
+        let holding = Holding::random(library, 40, &shape);
         row(&format!("{} states, {} machines", holding.tree.states().len(), nodes / 4), &holding, agreement);
     }
 }
 
-pub fn by_levels(agreement: &mut Agreement) {
+/// The same nodes in chains of more and more levels.
+pub fn by_levels(library: &'static Library, agreement: &mut Agreement) {
     print_head("by levels", &HEADS);
     for levels in 1..=LEVELS {
         let shape =
             Shape { growth: Growth::EvenChain, machines: levels, nodes: 128, commands: COMMANDS, filled: 30, loops: 5, costs: Costs::Any };
-        let holding = Holding::random(41, &shape);
+        let holding = Holding::random(library, 41, &shape);
         let lowest = holding.tree.machines_in_use().iter().filter_map(|&m| holding.tree.level(m)).max().unwrap_or(0);
         row(&format!("{lowest} levels, {} states", holding.tree.states().len()), &holding, agreement);
     }
@@ -77,9 +80,9 @@ pub fn by_edits(name: &str, holding: &Holding) {
 }
 
 /// The longest stream against its fronts, each cut after a whole command.
-pub fn by_bytes() {
+pub fn by_bytes(library: &'static Library) {
     print_head("by bytes", &["load", "ns a byte"]);
-    let (full, fresh) = (Holding::random(42, &Shape::full()).stream(), Holding::fresh());
+    let (full, fresh) = (Holding::random(library, 42, &Shape::full()).stream(), Holding::fresh(library));
     let streams = [8, 4, 2, 1].map(|part| front(&full, full.len() / part));
     let loads = streams.map(|stream| Box::new(|_, t: &mut Times| drop(fresh.load(stream, t))) as Work);
     for (stream, time) in streams.iter().zip(medians(ROUNDS, loads.into())) {

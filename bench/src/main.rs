@@ -1,34 +1,67 @@
-//! The proved library against a flat binary-heap Dijkstra search and against the plain model, on the same books in one run.
+//! The proved library against a flat binary-heap Dijkstra search and against the plain model, or against another build of itself, on the
+//! same books in one run.
 
+mod change;
 mod growth;
 mod holding;
+mod library;
 mod rows;
+mod side;
 mod timing;
 
 use himm_model::flat::Flat;
-use himm_model::random::{Costs, Growth, Shape};
-use himm_model::COMMANDS;
-use holding::Holding;
-use rows::{Agreement, Books};
+use holding::{Holding, PLAN_BYTES};
+use library::Library;
+use rows::Agreement;
+use side::{kinds, Side};
 use timing::{print_head, timed, Times};
 
-/// How many books of a kind are taken in turn; there is one ladder.
-const BOOKS: u64 = 32;
+/// Takes the library's shared object and, for the table of a change, that of the library before it.
+fn main() {
+    let paths: Vec<String> = std::env::args().skip(1).collect();
+    let mut agreement = Agreement::default();
+    println!(
+        "Times are medians in microseconds; a ratio is the median of the rounds' own ratios, with those of the 10th and the 90th percent."
+    );
+    println!("Buffers: plan buffers and outputs are filled before each call and books copied, both outside the clock.");
+    match &paths[..] {
+        [ours] => tables(Library::open(ours), &mut agreement),
+        [ours, before] => change::table(Library::open(before), Library::open(ours), &mut agreement),
+        _ => panic!("one shared object of the library, or two"),
+    }
+    println!();
+    println!("Answers compared: {}; both sides agreed on {}.", agreement.compared, agreement.compared - agreement.differed);
+    if agreement.differed > 0 {
+        std::process::exit(1);
+    }
+}
 
-fn books() -> Vec<(&'static str, Books)> {
-    let wide = Shape { filled: 60, ..Shape::full() };
-    let chain = Shape { growth: Growth::EvenChain, machines: 8, nodes: 256, commands: COMMANDS, filled: 30, loops: 5, costs: Costs::Any };
-    let of = |shape: &Shape| Books((0..BOOKS).map(|seed| Holding::random(40 + seed, shape)).collect());
-    vec![("the ladder", Books(vec![Holding::ladder()])), ("random books", of(&wide)), ("chains of eight levels", of(&chain))]
+/// The tables of one library.
+fn tables(library: &'static Library, agreement: &mut Agreement) {
+    let kinds = kinds(library);
+    println!("The two sides of a row, and the columns of the later tables, take turns round by round; in the first two tables each round has the next book.");
+    println!("Our calls check lengths, book and sheet each time; the flat search and the model's load trust theirs.");
+    noise(kinds[0].1.at(0));
+    println!();
+    println!("{:<38} {:<34} {:>9} {:>9} {:>8}   10 % .. 90 %", "ours", "against", "ours", "other", "ratio");
+    for (name, side) in &kinds {
+        rows::all(name, side, agreement);
+    }
+    parts(&kinds);
+    grown(library, &kinds, agreement);
+    for (_, side) in &kinds {
+        compare_all(side.at(0), agreement);
+    }
+    again(&kinds, agreement);
 }
 
 /// One book of each kind again and again, which the processor learns.
-fn again(books: Vec<(&'static str, Books)>, agreement: &mut Agreement) {
+fn again(kinds: &[(&str, Side)], agreement: &mut Agreement) {
     println!();
     println!("one book of each kind again and again");
-    for (name, kind) in books {
+    for (name, side) in kinds {
         println!("{name}");
-        rows::again(&Books(kind.0.into_iter().take(1).collect()), agreement);
+        rows::again(&side.first(), agreement);
     }
 }
 
@@ -52,53 +85,27 @@ fn compare_all(holding: &Holding, agreement: &mut Agreement) {
     for from in holding.tree.states().into_iter().step_by(8) {
         let costs = flat.costs_from(from);
         for to in holding.tree.states() {
-            let plan = himm::plan(&holding.book, &holding.sheet, from as u32, to as u32, &mut [0; himm::PLAN_BYTES]).map(|p| p.cost);
-            agreement.of(plan.ok(), costs[to]);
+            let pair = (from as u32, to as u32);
+            agreement.of(holding.library.plan(&holding.book, &holding.sheet, pair, &mut [0; PLAN_BYTES]).ok(), costs[to]);
         }
     }
 }
 
-fn main() {
-    let books = books();
-    println!(
-        "Times are medians in microseconds; a ratio is the median of the rounds' own ratios, with those of the 10th and the 90th percent."
-    );
-    println!("Buffers: plan buffers and outputs are cleared before each call and books copied, both outside the clock.");
-    println!("The two sides of a row, and the columns of the later tables, take turns round by round; in the first two tables each round has the next book.");
-    println!("Our calls check lengths, book and sheet each time; the flat search and the model's load trust theirs.");
-    noise(books[0].1.at(0));
-    let mut agreement = Agreement::default();
-    println!();
-    println!("{:<38} {:<34} {:>9} {:>9} {:>8}   10 % .. 90 %", "ours", "against", "ours", "other", "ratio");
-    for (name, kind) in &books {
-        rows::all(name, kind, &mut agreement);
-    }
-    parts(&books);
-    grown(&books, &mut agreement);
-    for (_, kind) in &books {
-        compare_all(kind.at(0), &mut agreement);
-    }
-    again(books, &mut agreement);
-    println!();
-    println!("Answers compared: {}; both sides agreed on {}.", agreement.compared, agreement.compared - agreement.differed);
-    if agreement.differed > 0 {
-        std::process::exit(1);
-    }
-}
-
-fn parts(books: &[(&str, Books)]) {
+/// The table of the parts of a plan.
+fn parts(kinds: &[(&str, Side)]) {
     print_head("parts of a plan", &["lengths", "book", "sheet", "the rest", "plan", "search"]);
-    for (name, kind) in books {
-        rows::parts(name, kind);
+    for (name, side) in kinds {
+        rows::parts(name, side);
     }
 }
 
-fn grown(books: &[(&str, Books)], agreement: &mut Agreement) {
-    growth::by_states(agreement);
-    growth::by_levels(agreement);
+/// The tables of how costs grow.
+fn grown(library: &'static Library, kinds: &[(&str, Side)], agreement: &mut Agreement) {
+    growth::by_states(library, agreement);
+    growth::by_levels(library, agreement);
     print_head("by edits", &["refresh", "all stale", "ratio"]);
-    for (name, kind) in books {
-        growth::by_edits(name, kind.at(0));
+    for (name, side) in kinds {
+        growth::by_edits(name, side.at(0));
     }
-    growth::by_bytes();
+    growth::by_bytes(library);
 }

@@ -1,13 +1,11 @@
 //! The rows of one kind of book in the first table, and its parts of a plan.
 
-use crate::holding::Holding;
+use crate::holding::{tree_words, Holding};
+use crate::side::{Side, BOOKS, ROUNDS};
 use crate::timing::{medians, print_row, rounds, timed, Times};
 use himm_model::flat::Flat;
-use himm_model::random::Random;
 use himm_model::stream::Station;
-use himm_model::{book, write, COMMANDS};
-
-const ROUNDS: usize = 400;
+use himm_model::{book, write};
 
 /// How many answers were compared, and how many of them differed.
 #[derive(Default)]
@@ -17,101 +15,71 @@ pub struct Agreement {
 }
 
 impl Agreement {
+    /// One answer of each side.
     pub fn of<T: PartialEq>(&mut self, ours: T, theirs: T) {
         self.compared += 1;
         self.differed += (ours != theirs) as usize;
     }
 
+    /// As many answers of each side.
     pub fn of_all<T: PartialEq>(&mut self, ours: Vec<T>, theirs: Vec<T>) {
         assert_eq!(ours.len(), theirs.len());
         ours.into_iter().zip(theirs).for_each(|(a, b)| self.of(a, b));
     }
 }
 
-/// Books of one kind, taken in turn round by round, so that no side meets the same book twice in a row where there is more than one.
-pub struct Books(pub Vec<Holding>);
-
-impl Books {
-    pub fn at(&self, round: usize) -> &Holding {
-        &self.0[round % self.0.len()]
-    }
-
-    /// What each round needs of its book, made before the clock runs.
-    fn each<T>(&self, make: impl Fn(usize, &Holding) -> T) -> Vec<T> {
-        (0..ROUNDS).map(|round| make(round, self.at(round))).collect()
-    }
-
-    fn pairs(&self) -> Vec<(u32, u32)> {
-        let all: Vec<_> = self.0.iter().map(|holding| holding.pairs(ROUNDS)).collect();
-        self.each(|round, _| all[round % all.len()][round])
-    }
-
-    fn edits(&self, seed: u64) -> Vec<Vec<u8>> {
-        let all: Vec<_> = self.0.iter().map(|holding| holding.edits(ROUNDS, seed)).collect();
-        self.each(|round, _| all[round % all.len()][round].clone())
-    }
-}
-
-pub fn all(name: &str, books: &Books, agreement: &mut Agreement) {
-    let pairs = books.pairs();
-    let ways = (0..ROUNDS).filter(|&i| Flat::of(&books.at(i).book).search(pairs[i].0 as usize, pairs[i].1 as usize).is_some()).count();
-    let mean = |count: &dyn Fn(&Holding) -> usize| books.0.iter().map(count).sum::<usize>() / books.0.len();
+/// Every row of one kind of book, the next book in each round.
+pub fn all(name: &str, side: &Side, agreement: &mut Agreement) {
+    let ways = (0..ROUNDS).filter(|&i| search(&Flat::of(&side.at(i).book), side, i).is_some()).count();
+    let mean = |count: &dyn Fn(&Holding) -> usize| side.books.iter().map(count).sum::<usize>() / side.books.len();
     println!();
     println!(
         "{name}: {} in turn, in the mean {} machines, {} states, {} bytes as a stream; a way in {ways} of {ROUNDS} pairs",
-        books.0.len(),
+        side.books.len(),
         mean(&|holding| holding.tree.machines_in_use().len()),
         mean(&|holding| holding.tree.states().len()),
-        mean(&|holding| holding.stream().len())
+        side.streams.iter().map(Vec::len).sum::<usize>() / side.streams.len()
     );
-    plans(books, agreement);
-    edits(books, agreement);
-    steps(books, agreement);
-    loads(books, agreement);
-    refreshes(books, agreement);
-    writes(books, agreement);
+    again(side, agreement);
+    loads(side, agreement);
+    refreshes(side, agreement);
+    writes(side, agreement);
 }
 
-pub fn again(books: &Books, agreement: &mut Agreement) {
-    plans(books, agreement);
-    edits(books, agreement);
-    steps(books, agreement);
+/// The rows that are also measured with one book again and again.
+pub fn again(side: &Side, agreement: &mut Agreement) {
+    plans(side, agreement);
+    edits(side, agreement);
+    steps(side, agreement);
 }
 
-fn plans(books: &Books, agreement: &mut Agreement) {
-    let pairs = books.pairs();
-    let flats: Vec<Flat> = books.0.iter().map(|holding| Flat::of(&holding.book)).collect();
-    let search = |flat: &Flat, i: usize| flat.search(pairs[i].0 as usize, pairs[i].1 as usize).map(|way| way.cost);
-    let plan = |i: usize, times: &mut _| books.at(i).plan(pairs[i], times);
-    let whole = |i: usize, times: &mut _| timed(times, || search(&Flat::of(&books.at(i).book), i));
+/// The flat search's cost for the pair of a round.
+fn search(flat: &Flat, side: &Side, i: usize) -> Option<u32> {
+    flat.search(side.pairs[i].0 as usize, side.pairs[i].1 as usize).map(|way| way.cost)
+}
+
+/// Plans against the flat search, flattened in two ways or beforehand.
+fn plans(side: &Side, agreement: &mut Agreement) {
+    let flats: Vec<Flat> = side.books.iter().map(|holding| Flat::of(&holding.book)).collect();
+    let plan = |i: usize, times: &mut _| side.plan(i, times);
+    let whole = |i: usize, times: &mut _| timed(times, || search(&Flat::of(&side.at(i).book), side, i));
     rounds(ROUNDS, plan, whole, |a, b| agreement.of(a, b)).print("plan", "flatten and search");
-    let plain = |i: usize, times: &mut _| timed(times, || search(&Flat::step_by_step(&books.at(i).book), i));
+    let plain = |i: usize, times: &mut _| timed(times, || search(&Flat::step_by_step(&side.at(i).book), side, i));
     rounds(ROUNDS, plan, plain, |a, b| agreement.of(a, b)).print("plan", "flatten step by step and search");
-    let alone = |i: usize, times: &mut _| timed(times, || search(&flats[i % flats.len()], i));
+    let alone = |i: usize, times: &mut _| timed(times, || search(&flats[i % flats.len()], side, i));
     rounds(ROUNDS, plan, alone, |a, b| agreement.of(a, b)).print("plan", "search alone");
-    let flatten = |i: usize, times: &mut _| timed(times, || Flat::of(&books.at(i).book));
-    rounds(ROUNDS, |i, t| books.at(i).check_both(t), flatten, |_, _| ()).print("checks of a plan alone", "flatten alone");
+    let flatten = |i: usize, times: &mut _| timed(times, || Flat::of(&side.at(i).book));
+    rounds(ROUNDS, |i, t| side.at(i).check_both(t), flatten, |_, _| ()).print("checks of a plan alone", "flatten alone");
 }
 
 /// One edit, then a plan: with a refresh in between on our side, with a new flattening on the other.
-fn edits(books: &Books, agreement: &mut Agreement) {
-    let (pairs, edits) = (books.pairs(), books.edits(5));
-    let ours = |i: usize, times: &mut _| edit_and_plan(books.at(i), &edits[i], pairs[i], times);
+fn edits(side: &Side, agreement: &mut Agreement) {
+    let ours = |i: usize, times: &mut _| side.edit_refresh_and_plan(i, times);
     let theirs = |i: usize, times: &mut _| {
-        let mut words = books.at(i).book.clone();
-        timed(times, || set(&mut words, &edits[i]).search(pairs[i].0 as usize, pairs[i].1 as usize)).map(|way| way.cost)
+        let mut words = side.at(i).book.clone();
+        timed(times, || search(&set(&mut words, &side.edits[i]), side, i))
     };
     rounds(ROUNDS, ours, theirs, |a, b| agreement.of(a, b)).print("edit, refresh and plan", "edit, flatten and search");
-}
-
-fn edit_and_plan(holding: &Holding, edit: &[u8], (from, to): (u32, u32), times: &mut Times) -> Option<u32> {
-    let (mut words, mut sheet) = (holding.book.clone(), holding.sheet.clone());
-    let mut buffer = [0; himm::PLAN_BYTES];
-    let stream = [edit, &[himm::REFRESH]].concat();
-    timed(times, || {
-        himm::load(&mut words, &mut sheet, &stream).result.expect("a good edit");
-        himm::plan(&words, &sheet, from, to, &mut buffer).ok().map(|plan| plan.cost)
-    })
 }
 
 /// Sets a transition in a book by its bytes, and flattens it.
@@ -121,71 +89,61 @@ fn set(words: &mut [u32], edit: &[u8]) -> Flat {
     Flat::of(words)
 }
 
-fn steps(books: &Books, agreement: &mut Agreement) {
-    let places = books.each(|round, holding| {
-        let mut random = Random::new(round as u64);
-        (random.pick(&holding.tree.states()), random.below(COMMANDS))
-    });
-    let ours = |i: usize, times: &mut _| {
-        let (s, x) = places[i];
-        timed(times, || himm::step(&books.at(i).book, s as u32, x as u32)).ok().map(|a| (a.state as usize, a.cost))
+/// Steps against a flattening that is looked up once.
+fn steps(side: &Side, agreement: &mut Agreement) {
+    let theirs = |i: usize, times: &mut _| {
+        let (state, command) = side.places[i];
+        timed(times, || Flat::of(&side.at(i).book).step(state as usize, command as usize)).map(|(next, cost)| (next as u32, cost))
     };
-    let theirs = |i: usize, times: &mut _| timed(times, || Flat::of(&books.at(i).book).step(places[i].0, places[i].1));
-    rounds(ROUNDS, ours, theirs, |a, b| agreement.of(a, b)).print("step", "flatten and look up");
+    rounds(ROUNDS, |i, t| side.step(i, t), theirs, |a, b| agreement.of(a, b)).print("step", "flatten and look up");
 }
 
 /// A book's own stream into a fresh holding; the model edits its tree and encodes it.
-fn loads(books: &Books, agreement: &mut Agreement) {
-    let (streams, fresh) = (books.0.iter().map(Holding::stream).collect::<Vec<_>>(), Holding::fresh());
-    let ours = |i: usize, times: &mut _| fresh.load(&streams[i % streams.len()], times).0;
+fn loads(side: &Side, agreement: &mut Agreement) {
+    let fresh = Holding::fresh(side.library());
     let theirs = |i: usize, times: &mut _| {
-        timed(times, || {
+        let words = timed(times, || {
             let mut station = Station::stale(fresh.tree.clone());
-            station.load(&streams[i % streams.len()]);
+            station.load(&side.streams[i % side.streams.len()]);
             book::encode(&station.tree)
-        })
+        });
+        tree_words(&words).to_vec()
     };
-    rounds(ROUNDS / 4, ours, theirs, |a, b| agreement.of(a, b)).print("load of the whole book", "the plain model's load");
+    rounds(ROUNDS / 4, |i, t| side.load(i, t), theirs, |a, b| agreement.of(a, b)).print("load of the whole book", "the plain model's load");
 }
 
 /// One edit and a refresh of what it left stale, against the same edit and a refresh of everything; both leave the same book.
-fn refreshes(books: &Books, agreement: &mut Agreement) {
-    let stale = Books(books.0.iter().map(Holding::stale).collect());
-    let edits: Vec<Vec<u8>> = books.edits(9).iter().map(|edit| [&edit[..], &[himm::REFRESH]].concat()).collect();
-    let one = |i: usize, times: &mut _| books.at(i).load(&edits[i], times).0;
-    let all = |i: usize, times: &mut _| stale.at(i).load(&edits[i], times).0;
+fn refreshes(side: &Side, agreement: &mut Agreement) {
+    let all = |i: usize, times: &mut _| side.edit_and_refresh_all(i, times);
+    let one = |i: usize, times: &mut _| side.edit_and_refresh(i, times);
     rounds(ROUNDS, one, all, |a, b| agreement.of(a, b)).print("one edit and refresh", "the same, all stale (ours)");
-    let flatten = |i: usize, times: &mut _| timed(times, || Flat::of(&books.at(i).book));
+    let flatten = |i: usize, times: &mut _| timed(times, || Flat::of(&side.at(i).book));
     rounds(ROUNDS, all, flatten, |_, _| ()).print("one edit and refresh, all stale", "flatten alone");
-    let nothing = |i: usize, times: &mut _| books.at(i).load(&[], times);
-    rounds(ROUNDS, nothing, all, |_, _| ()).print("load of an empty stream", "one edit, all stale (ours)");
+    rounds(ROUNDS, |i, t| side.load_nothing(i, t), all, |_, _| ()).print("load of an empty stream", "one edit, all stale (ours)");
 }
 
-fn writes(books: &Books, agreement: &mut Agreement) {
-    let mut out = vec![0; himm::STREAM_BYTES];
-    let ours = |i: usize, times: &mut _| books.at(i).write(&mut out, times);
-    let theirs = |i: usize, times: &mut _| timed(times, || write::stream(&book::decode(&books.at(i).book).expect("a book"))).len();
-    rounds(ROUNDS / 4, ours, theirs, |a, b| agreement.of(a, b)).print("write", "the plain model's write");
+/// Writing against the model's.
+fn writes(side: &Side, agreement: &mut Agreement) {
+    let theirs = |i: usize, times: &mut _| timed(times, || write::stream(&book::decode(&side.at(i).book).expect("a book"))).len();
+    rounds(ROUNDS / 4, |i, t| side.write(i, t), theirs, |a, b| agreement.of(a, b)).print("write", "the plain model's write");
 }
 
-/// Where a plan's time goes: lengths, book, sheet, and the rest, which is the tables, the search and the expansion; beside it the flat search alone. In each round every column
-/// has another book where there are 32, so that none finds its book looked at just before.
-pub fn parts(name: &str, books: &Books) {
-    let pairs = books.pairs();
-    let flats: Vec<Flat> = books.0.iter().map(|holding| Flat::of(&holding.book)).collect();
-    let later = |round: usize, by: usize| (round + by) % (ROUNDS - ROUNDS % 32);
+/// Where a plan's time goes: lengths, book, sheet, and the rest, which is the tables, the search and the expansion; beside it the flat
+/// search alone. In each round every column has another book where there are several, so that none finds its book looked at just before.
+pub fn parts(name: &str, side: &Side) {
+    let flats: Vec<Flat> = side.books.iter().map(|holding| Flat::of(&holding.book)).collect();
+    let later = |round: usize, by: usize| (round + by) % (ROUNDS - ROUNDS % BOOKS);
     let times = medians(
         ROUNDS,
         vec![
-            Box::new(|i, t: &mut Times| books.at(i).check_lengths(t)),
-            Box::new(|i, t: &mut Times| books.at(later(i, 8)).check_book(t)),
-            Box::new(|i, t: &mut Times| books.at(later(i, 16)).check_both(t)),
+            Box::new(|i, t: &mut Times| side.at(i).check_lengths(t)),
+            Box::new(|i, t: &mut Times| side.at(later(i, 8)).check_book(t)),
+            Box::new(|i, t: &mut Times| side.at(later(i, 16)).check_both(t)),
             Box::new(|i, t: &mut Times| {
-                books.at(later(i, 24)).plan(pairs[later(i, 24)], t);
+                side.plan(later(i, 24), t);
             }),
             Box::new(|i, t: &mut Times| {
-                let (from, to) = pairs[later(i, 4)];
-                timed(t, || flats[later(i, 4) % flats.len()].search(from as usize, to as usize));
+                timed(t, || search(&flats[later(i, 4) % flats.len()], side, later(i, 4)));
             }),
         ],
     );

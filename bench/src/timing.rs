@@ -8,13 +8,15 @@ use std::time::Instant;
 pub struct Times(pub Vec<f64>);
 
 impl Times {
-    /// The time below which this share of the rounds lies.
+    /// The time below which this share of the rounds lies; no number where nothing was timed.
     pub fn share(&self, share: f64) -> f64 {
         let mut sorted = self.0.clone();
         sorted.sort_by(f64::total_cmp);
-        sorted[((sorted.len() - 1) as f64 * share).round() as usize]
+        let last = sorted.len().saturating_sub(1) as f64;
+        sorted.get((last * share).round() as usize).copied().unwrap_or(f64::NAN)
     }
 
+    /// The time of the middle round.
     pub fn median(&self) -> f64 {
         self.share(0.5)
     }
@@ -40,9 +42,26 @@ impl Pair {
         Times(self.ours.0.iter().zip(&self.theirs.0).map(|(a, b)| a / b).collect())
     }
 
+    /// A row of ours against another side.
     pub fn print(&self, what: &str, against: &str) {
         let (a, b, r) = (self.ours.median(), self.theirs.median(), self.ratios());
         println!("{what:<38} {against:<34} {a:>9.2} {b:>9.2} {:>8.2}   {:.2} .. {:.2}", r.median(), r.share(0.1), r.share(0.9));
+    }
+
+    /// A row of ours after a change against the other side before it.
+    pub fn print_change(&self, what: &str) {
+        let r = self.ratios();
+        let [before, after, ratio] = [self.theirs.median(), self.ours.median(), r.median()].map(number);
+        println!("{what:<38} {before:>9} {after:>9} {ratio:>8}   {} .. {}", number(r.share(0.1)), number(r.share(0.9)));
+    }
+}
+
+/// A number in a table, a dash where nothing was timed.
+fn number(value: f64) -> String {
+    if value.is_nan() {
+        "-".to_string()
+    } else {
+        format!("{value:.2}")
     }
 }
 

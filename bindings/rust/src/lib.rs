@@ -19,6 +19,9 @@ mod refusal;
 
 pub use refusal::Refusal;
 
+/// The version of `include/himm.h` that these calls are written for.
+pub const VERSION: u32 = 1;
+
 /// Machines, nodes, commands and levels: each number is under its limit.
 pub const MACHINES: usize = 64;
 pub const NODES: usize = 256;

@@ -1,0 +1,66 @@
+//! Two libraries on the same books: before and after a change, row by row.
+
+use crate::library::Library;
+use crate::rows::Agreement;
+use crate::side::{kinds, Side, ROUNDS};
+use crate::timing::{rounds, Times};
+
+/// A row: its name, the call that it needs, and its work of one round, which gives an answer that both libraries must agree on.
+type Row = (&'static str, &'static str, fn(&Side, usize, &mut Times) -> Vec<u32>);
+
+/// The row that needs no book.
+const OPENING: Row = ("open the ladder", "himm_open_ladder", |side, _, t| side.open(t));
+
+/// The rows of each kind of book.
+const ROWS: [Row; 12] = [
+    ("plan", "himm_plan", |side, i, t| side.plan(i, t).into_iter().collect()),
+    ("checks of book and sheet", "himm_exit", |side, i, t| none(side.at(i).check_both(t))),
+    ("checks of the book", "himm_step", |side, i, t| none(side.at(i).check_book(t))),
+    ("edit, refresh and plan", "himm_plan", |side, i, t| side.edit_refresh_and_plan(i, t).into_iter().collect()),
+    ("step", "himm_step", |side, i, t| side.step(i, t).map_or(vec![], |(state, cost)| vec![state, cost])),
+    ("exit", "himm_exit", |side, i, t| side.exit(i, t).into_iter().collect()),
+    ("choose", "himm_choose", |side, i, t| side.choose(i, t).map_or(vec![], |(which, used)| vec![which, used])),
+    ("load of the whole book", "himm_load", |side, i, t| side.load(i, t)),
+    ("load of an empty stream", "himm_load", |side, i, t| side.load_nothing(i, t)),
+    ("one edit and refresh", "himm_load", |side, i, t| side.edit_and_refresh(i, t)),
+    ("one edit and refresh, all stale", "himm_load", |side, i, t| side.edit_and_refresh_all(i, t)),
+    ("write", "himm_write", |side, i, t| vec![side.write(i, t) as u32]),
+];
+
+/// The answer of work that gives none.
+fn none(_: ()) -> Vec<u32> {
+    vec![]
+}
+
+/// The table of both libraries: books in turn, then one book of each kind again and again.
+pub fn table(before: &'static Library, after: &'static Library, agreement: &mut Agreement) {
+    for (name, library) in [("Before", before), ("After", after)] {
+        println!("{name}: books of {} words, sheets of {}.", library.book_words, library.sheet_words);
+    }
+    let both: Vec<_> = kinds(before).into_iter().zip(kinds(after)).map(|((name, a), (_, b))| (name, a, b)).collect();
+    println!();
+    println!("{:<38} {:>9} {:>9} {:>8}   10 % .. 90 %", "", "before", "after", "ratio");
+    let (_, one, other) = &both[0];
+    row(&OPENING, one, other, agreement);
+    for (name, before, after) in &both {
+        println!("{name}: {} in turn", before.books.len());
+        ROWS.iter().for_each(|each| row(each, before, after, agreement));
+    }
+    for (name, before, after) in both.iter().filter(|(_, before, _)| before.books.len() > 1) {
+        println!("{name}: one again and again");
+        let (before, after) = (before.first(), after.first());
+        ROWS.iter().for_each(|each| row(each, &before, &after, agreement));
+    }
+}
+
+/// One row; a library that lacks its call has no number in it.
+fn row((name, call, work): &Row, before: &Side, after: &Side, agreement: &mut Agreement) {
+    let (old, new) = (before.library().has(call), after.library().has(call));
+    let on = |side: &Side, has: bool, i: usize, t: &mut Times| if has { work(side, i, t) } else { vec![] };
+    let agree = |a: Vec<u32>, b: Vec<u32>| {
+        if old && new {
+            agreement.of(a, b)
+        }
+    };
+    rounds(ROUNDS, |i, t| on(after, new, i, t), |i, t| on(before, old, i, t), agree).print_change(name);
+}

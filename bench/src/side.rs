@@ -1,0 +1,144 @@
+//! Books of one kind in one library, what each round needs of them, and the work of a round. The same seeds give the same work in every
+//! library.
+
+use crate::holding::{then_refresh, tree_words, Holding};
+use crate::library::Library;
+use crate::timing::{timed, Times};
+use himm_model::random::{Costs, Growth, Random, Shape};
+use himm_model::COMMANDS;
+
+/// How often each piece of work is timed.
+pub const ROUNDS: usize = 400;
+
+/// How many books of a kind are taken in turn; there is one ladder.
+pub const BOOKS: usize = 32;
+
+/// How long the lists are that are chosen from.
+const LIST: usize = 64;
+
+/// Books, taken in turn round by round, so that no side meets the same book twice in a row where there is more than one; beside them the
+/// same with every machine stale, and a fresh one. Streams are by book, the other inputs by round.
+pub struct Side {
+    pub books: Vec<Holding>,
+    stale: Vec<Holding>,
+    fresh: Holding,
+    pub streams: Vec<Vec<u8>>,
+    pub pairs: Vec<(u32, u32)>,
+    pub edits: Vec<Vec<u8>>,
+    pub places: Vec<(u32, u32)>,
+    lists: Vec<[Vec<u8>; 2]>,
+}
+
+/// The kinds of books that are measured.
+pub fn kinds(library: &'static Library) -> Vec<(&'static str, Side)> {
+    let wide = Shape { filled: 60, ..Shape::full() };
+    let chain = Shape { growth: Growth::EvenChain, machines: 8, nodes: 256, commands: COMMANDS, filled: 30, loops: 5, costs: Costs::Any };
+    let of = |shape: &Shape| Side::of((0..BOOKS).map(|seed| Holding::random(library, 40 + seed as u64, shape)).collect());
+    vec![("the ladder", Side::of(vec![Holding::ladder(library)])), ("random books", of(&wide)), ("chains of eight levels", of(&chain))]
+}
+
+impl Side {
+    /// Some books, with what each round needs made before the clock runs.
+    pub fn of(books: Vec<Holding>) -> Side {
+        let in_turn = |round: usize| &books[round % books.len()];
+        let pairs: Vec<_> = books.iter().map(|holding| holding.pairs(ROUNDS)).collect();
+        let edits: Vec<_> = books.iter().map(|holding| holding.edits(ROUNDS, 5)).collect();
+        Side {
+            stale: books.iter().map(Holding::stale).collect(),
+            fresh: Holding::fresh(books[0].library),
+            streams: books.iter().map(Holding::stream).collect(),
+            pairs: (0..ROUNDS).map(|round| pairs[round % pairs.len()][round]).collect(),
+            edits: (0..ROUNDS).map(|round| edits[round % edits.len()][round].clone()).collect(),
+            places: (0..ROUNDS).map(|round| place(in_turn(round), round)).collect(),
+            lists: (0..ROUNDS).map(|round| [2 * round, 2 * round + 1].map(list)).collect(),
+            books,
+        }
+    }
+
+    /// The first of the books alone: one book again and again, which the processor learns.
+    pub fn first(&self) -> Side {
+        Side::of(self.books[..1].to_vec())
+    }
+
+    /// The library that the books are in.
+    pub fn library(&self) -> &'static Library {
+        self.fresh.library
+    }
+
+    /// The book of a round.
+    pub fn at(&self, round: usize) -> &Holding {
+        &self.books[round % self.books.len()]
+    }
+
+    /// The ladder opened; the lists are filled outside the clock.
+    pub fn open(&self, times: &mut Times) -> Vec<u32> {
+        let (mut book, mut sheet) = (self.fresh.book.clone(), self.fresh.sheet.clone());
+        timed(times, || self.library().open_ladder(&mut book, &mut sheet)).expect("right lengths");
+        tree_words(&book).to_vec()
+    }
+
+    /// A plan's cost.
+    pub fn plan(&self, round: usize, times: &mut Times) -> Option<u32> {
+        self.at(round).plan(self.pairs[round], times)
+    }
+
+    /// One edit, a refresh of what it left stale, and a plan, whose cost it gives.
+    pub fn edit_refresh_and_plan(&self, round: usize, times: &mut Times) -> Option<u32> {
+        self.at(round).load_and_plan(&then_refresh(&self.edits[round]), self.pairs[round], times)
+    }
+
+    /// The state that a command leads to, and its cost.
+    pub fn step(&self, round: usize, times: &mut Times) -> Option<(u32, u32)> {
+        let (state, command) = self.places[round];
+        timed(times, || self.library().step(&self.at(round).book, state, command)).ok()
+    }
+
+    /// The root's exit cost for the command of the round.
+    pub fn exit(&self, round: usize, times: &mut Times) -> Option<u32> {
+        let holding = self.at(round);
+        timed(times, || self.library().exit(&holding.book, &holding.sheet, holding.tree.root as u32, self.places[round].1)).ok()
+    }
+
+    /// The book's own stream into a fresh holding.
+    pub fn load(&self, round: usize, times: &mut Times) -> Vec<u32> {
+        self.fresh.load(&self.streams[round % self.streams.len()], times)
+    }
+
+    /// One edit, and a refresh of what it left stale.
+    pub fn edit_and_refresh(&self, round: usize, times: &mut Times) -> Vec<u32> {
+        self.at(round).load(&then_refresh(&self.edits[round]), times)
+    }
+
+    /// The same edit, and a refresh of everything.
+    pub fn edit_and_refresh_all(&self, round: usize, times: &mut Times) -> Vec<u32> {
+        self.stale[round % self.stale.len()].load(&then_refresh(&self.edits[round]), times)
+    }
+
+    /// An empty stream: the checks of book and sheet, as a load makes them.
+    pub fn load_nothing(&self, round: usize, times: &mut Times) -> Vec<u32> {
+        self.at(round).load(&[], times)
+    }
+
+    /// The length of the book's stream.
+    pub fn write(&self, round: usize, times: &mut Times) -> usize {
+        self.at(round).write(times)
+    }
+
+    /// The better of two random lists.
+    pub fn choose(&self, round: usize, times: &mut Times) -> Option<(u32, u32)> {
+        let [first, second] = &self.lists[round];
+        timed(times, || self.library().choose(&self.at(round).book, self.pairs[round], first, second)).ok()
+    }
+}
+
+/// A state and a command at random.
+fn place(holding: &Holding, round: usize) -> (u32, u32) {
+    let mut random = Random::new(round as u64);
+    (random.pick(&holding.tree.states()) as u32, random.below(COMMANDS) as u32)
+}
+
+/// A random list of commands.
+fn list(seed: usize) -> Vec<u8> {
+    let mut random = Random::new(seed as u64);
+    (0..LIST).map(|_| random.below(COMMANDS) as u8).collect()
+}
