@@ -14,15 +14,17 @@ use borrow.Author.Tests.{eq-eqb, ne-eqb, eqb-true}
 use Rattle.definitions.specs.Basics.{_>>=_}
 use Rattle.definitions.specs.Limits.{machines, nodes, commands, costs, absent, blank}
 use Rattle.definitions.specs.Tree.{Tree, Transition, UsedNode, Sound, over}
-use Rattle.definitions.specs.Step.{climb}
+use Rattle.definitions.specs.Step.{counting, climb}
 use Rattle.definitions.specs.Book.{word, transitionWord, transitionOf, treeOf, WellFormed}
 use Rattle.definitions.proofs.Options.{some-same, equal-or-not}
-use Rattle.definitions.proofs.Words.{transition-word, target-range, no-transition, some-transition}
+use Rattle.definitions.proofs.Path.{climb-own}
+use Rattle.definitions.proofs.Words.{transition-word}
 use Rattle.definitions.proofs.Commands.{over-top, over-up}
 use Rattle.definitions.proofs.Simple.{over-own}
 use Rattle.plantheory.specs.Search.{openedFor}
 use Rattle.search.specs.Parts.{at}
-use Rattle.stepping.proofs.Laws.{top-root, climb-here, climb-ends, climb-up}
+use Rattle.book.proofs.Counts.{no-counting, some-counting, counting-node}
+use Rattle.stepping.proofs.Laws.{top-root, climb-ends, climb-up}
 use Rattle.crossing.specs.Parts.{NodeList, landed, finds, inherits, UpRoom, Inherited, OwnerRow, RootRow, Handed, HandedTo, HandedAbove}
 use Rattle.crossing.specs.Parts.{isOpen, OpenedFor, Landings, Prepared}
 use Rattle.crossing.proofs.Upward.{own, top, held}
@@ -32,12 +34,12 @@ use Rattle.crossing.proofs.Opening.{either, zeros}
 
 module _ {t : Tree} (s : Sound t) (lands : List ℕ) {n m : ℕ} (x : ℕ) (own : t .owner n ≡ some m) where
   -- a node's own transition
-  finds-own : {a : Transition} → t .transition n x ≡ some a → finds t lands n x ≡ some (record { target = at lands (a .target); cost = a .cost })
+  finds-own : {a : Transition} → counting t n x ≡ some a → finds t lands n x ≡ some (record { target = at lands (a .target); cost = a .cost })
   unfolding finds
-  finds-own {a} has = ap (landed lands) (climb-here t s x own a has)
+  finds-own {a} has = ap (landed lands) (climb-own t (t .root) n x a has)
 
   -- or else what its machine inherits
-  finds-inherited : t .transition n x ≡ none → finds t lands n x ≡ inherits t lands m x
+  finds-inherited : counting t n x ≡ none → finds t lands n x ≡ inherits t lands m x
   unfolding finds inherits
   finds-inherited free = go (t .holder m) refl
     where
@@ -54,14 +56,14 @@ word-says v c node cost =
 
 -- the same, from what the words say
 module _ (book : List ℕ) (w : WellFormed book) (lands : List ℕ) (n x : ℕ) {m a : ℕ} (own-n : treeOf book .owner n ≡ some m)
-    (is : a ≡ transitionWord (treeOf book .transition n x)) where
+    (is : a ≡ transitionWord (counting (treeOf book) n x)) where
   find-inherited : a ≡ blank → (up : ℕ) → transitionOf up ≡ inherits (treeOf book) lands m x → transitionOf up ≡ finds (treeOf book) lands n x
-  find-inherited free up says = says ∙ sym (finds-inherited (w .sound) lands x own-n (no-transition (treeOf book) (w .sound) n x is free))
+  find-inherited free up says = says ∙ sym (finds-inherited (w .sound) lands x own-n (no-counting (w .sound) n x is free))
 
   find-own : NodeList lands → (a ≡ blank → ⊥) → transitionOf (at lands (a / costs % nodes) * costs + a % costs) ≡ finds (treeOf book) lands n x
   find-own list there =
-      let has = some-transition (treeOf book) (w .sound) n x is there in
-      let target : a / costs < nodes = target-range (treeOf book) (w .sound) n x _ has .1 in
+      let has = some-counting (w .sound) n x is there in
+      let target : a / costs < nodes = counting-node (w .sound) n x is there in
       let same : a / costs % nodes ≡ a / costs = omega arith in
       let says : transitionOf (at lands (a / costs) * costs + a % costs) ≡ some (record { target = at lands (a / costs); cost = a % costs }) =
       word-says (at lands (a / costs)) (a % costs) (list .inside (a / costs) target) (omega arith) in

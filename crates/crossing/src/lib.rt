@@ -132,7 +132,7 @@ fn find(book: &[u32], lands: &[u32], up: &[u32], m: u32, n: u32, x: u32) -> u32
         × MachineRow (treeOf (now book)) (now lands) (now up) m ⌝ }
     ensures { λ r. ⌜ transitionOf r ≡ finds (treeOf (now (book .entry))) (now (lands .entry)) n x ⌝ }
 {
-    let w = book::transition(book, n, x);
+    let w = book::counting(book, n, x);
     let own = lands[(w / 65536 % 256) as usize] * 65536 + w % 65536;
     let inherited = book::BLANK - up[(book::COMMANDS * m + x) as usize];
     unless_none(w, own, inherited)

@@ -17,7 +17,7 @@ use Rattle.definitions.specs.Tree.{Tree, Transition, Sound, isState, sta
 use Rattle.definitions.specs.Step.{enter, startState, counting, leaving, leavingOf, Climb, found, passed, past, firstOf, look, climb, Arrival, follow, stepIn, step, runIn, Moves, passes}
 use Rattle.definitions.specs.Costs.{LeastCost, ExitCost}
 use Rattle.definitions.proofs.Options.{bind-some, none-some, some-same, true-false, equal-or-not, isAt-some, isSome-true}
-use Rattle.definitions.proofs.Path.{Deep, at-root, under, root-holder, deep, path-on, enter-enters, enters-state, Inside, own, deeper}
+use Rattle.definitions.proofs.Path.{Deep, at-root, under, root-holder, deep, path-on, enter-enters, enters-state, counting-is, Inside, own, deeper}
 use Rattle.definitions.proofs.Runs.{onto, run-first, run-cons, run-nil}
 use Rattle.definitions.proofs.Exits.{ExitParts, exit-parts, parts-exit}
 use Rattle.definitions.proofs.Inside.{inside-owner, enters-inside, found-inside}
@@ -167,8 +167,7 @@ distinct-count k p (n ∷ ns) d all =
 
 -- a transition that counts costs at most 65,535
 pub counting-cost : {t : Tree} → Sound t → (n x : ℕ) (a : Transition) → counting t n x ≡ some a → a .cost ≤ largestCost
-unfolding counting
-counting-cost s n x a e = omega (arith, s .transition-range n x a e .1)
+counting-cost {t} s n x a e = omega (arith, s .transition-range n x a (counting-is t n x a e) .1)
 
 -- leaving a node's machine costs nothing
 leaving-free : (t : Tree) (n : ℕ) → leavingOf t n ≡ 0

@@ -13,8 +13,9 @@ use Rattle.definitions.specs.Book.{transitionWord}
 use Rattle.definitions.specs.Sheet.{Rows}
 use Rattle.definitions.specs.Truth.{nodeExit, move}
 use Rattle.definitions.proofs.Options.{equal-or-not}
-use Rattle.definitions.proofs.Words.{under-in, no-transition, some-transition, target-range}
+use Rattle.definitions.proofs.Words.{under-in}
 use Rattle.definitions.proofs.Local.{move-by}
+use Rattle.book.proofs.Counts.{no-counting, some-counting, counting-node, counting-sibling}
 use Rattle.search.specs.Search.{rowMove}
 use Rattle.search.specs.Parts.{at}
 use Rattle.refreshing.specs.Parts.{Gathered, placed, entryMove, Placing, Tabled, TableRoom}
@@ -36,8 +37,8 @@ entry-some v c other = rw (number-is v other)
 module _ {t : Tree} (sound : Sound t) (r : Rows) (places : List ℕ) (n x : ℕ) {w : ℕ} (says : w ≡ transitionWord (counting t n x)) where
   -- a node without a transition has no move
   pub entry-blank : w ≡ blank → entryMove absent 0 ≡ placed (at places) (move t r n x)
-  unfolding counting move
-  entry-blank e = entry-none absent 0 refl ∙ rw (no-transition t sound n x says e)
+  unfolding move
+  entry-blank e = entry-none absent 0 refl ∙ rw (no-counting sound n x says e)
 
   -- nor has one that is never left
   pub entry-never : nodeExit t r n x ≡ none → entryMove absent 0 ≡ placed (at places) (move t r n x)
@@ -49,30 +50,15 @@ module _ {t : Tree} (sound : Sound t) (r : Rows) (places : List ℕ) (n x : ℕ)
       go (some a) has = entry-none absent 0 refl ∙ rw (has, e)
 
   module _ (there : w ≡ blank → ⊥) where
-    -- the transition that the word says
-    has : counting t n x ≡ some (record { target = w / costs; cost = w % costs })
-    unfolding counting
-    has = some-transition t sound n x says there
-
-    -- its target is a node
-    entry-target : w / costs < nodes
-    unfolding counting
-    entry-target = target-range t sound n x _ has .1
-
-    -- a node of the same machine
-    target-owner : t .owner (w / costs) ≡ t .owner n
-    unfolding counting
-    target-owner = let (m, own, own-target) = sound .transition-owned n x _ has in own-target ∙ sym own
-
     -- a move
     pub entry-costs : Placing t places n → {e v c : ℕ} → nodeExit t r n x ≡ some e → v ≡ at places (w / costs % nodes)
         → c ≡ 0 + e + w % costs → entryMove v c ≡ placed (at places) (move t r n x)
     entry-costs placing {e} {v} {c} exit at-v sum =
-        let small = placing .small (w / costs) target-owner in
-        let target : w / costs % nodes ≡ w / costs = omega (arith, entry-target) in
+        let small = placing .small (w / costs) (counting-sibling sound n x says there) in
+        let target : w / costs % nodes ≡ w / costs = omega (arith, counting-node sound n x says there) in
         let here : v ≡ at places (w / costs) = at-v ∙ ap (at places) target in
         let same : c ≡ e + w % costs = omega arith in
-        rw (move-by t r n x has exit)
+        rw (move-by t r n x (some-counting sound n x says there) exit)
         (entry-some v c (omega arith) ∙ ap₂ (λ (u k : ℕ). some (record { node = u; cost = k })) here same)
 
 -- a node with a place is in range

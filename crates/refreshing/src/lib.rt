@@ -93,7 +93,7 @@ fn table_entry(book: &[u32], sheet: &[u32], places: &[u32], n: u32, x: u32) -> E
     ensures { λ r. ⌜ entryMove (r .target) (r .price)
         ≡ placed (at (now (places .entry))) (move (treeOf (now (book .entry))) (rowsOf (now (sheet .entry))) n x) ⌝ }
 {
-    let w = truesheet::counting(book, n, x);
+    let w = book::counting(book, n, x);
     let price = leave(book, sheet, n, x, 0, w % 65536);
     let v = word(places, w / 65536 % book::NODES);
     if w == book::BLANK {
@@ -234,7 +234,7 @@ fn way_cost(book: &[u32], sheet: &[u32], n: u32, d: u64, x: u32) -> u64
         return search::UNREACHED;
     }
     let way = leave(book, sheet, n, x, d, 0);
-    if truesheet::counting(book, n, x) != book::BLANK {
+    if book::counting(book, n, x) != book::BLANK {
         return search::UNREACHED;
     }
     way

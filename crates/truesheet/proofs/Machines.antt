@@ -15,23 +15,14 @@ use Rattle.definitions.specs.Book.{word, transitionWord}
 use Rattle.definitions.specs.Sheet.{Rows, costWord, rowsOf}
 use Rattle.definitions.specs.Truth.{BlankMachine, Ended}
 use Rattle.definitions.proofs.Options.{bind-some, none-some, some-same, true-false}
-use Rattle.definitions.proofs.Words.{present-word, owner-range, holder-range, no-holder, no-start, no-transition}
+use Rattle.definitions.proofs.Words.{present-word, owner-range, holder-range, no-holder, no-start}
 use Rattle.sheet.specs.Fields.{Mark}
 use Rattle.book.specs.Decides.{Decides}
+use Rattle.book.proofs.Counts.{no-counting, counting-blank}
 use Rattle.book.proofs.Decide.{decides-same, decides-equal}
 use Rattle.wellformed.proofs.Reading.{said-is, unsaid-is, unsaid}
 use Rattle.truesheet.specs.Fits.{AddsUp, BlankExit, ExitFits, ExitsFit, AboveStale, MachineFits}
 use Rattle.truesheet.proofs.Reading.{ReadRows, cost-is, blank-is, cost-said, cost-unsaid}
-
--- the word for no transition says that none counts
-pub no-counting : {t : Tree} → Sound t → (n x : ℕ) {w : ℕ} → w ≡ transitionWord (counting t n x) → w ≡ blank → counting t n x ≡ none
-unfolding counting
-no-counting {t} s n x e z = no-transition t s n x e z
-
--- where none counts the word is blank
-counting-blank : (t : Tree) (n x : ℕ) {w : ℕ} → w ≡ transitionWord (counting t n x) → counting t n x ≡ none → w ≡ blank
-unfolding transitionWord
-counting-blank t n x e free = rw free at e
 
 -- ---- the last node of an exit
 

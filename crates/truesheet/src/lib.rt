@@ -3,9 +3,8 @@
 ghost use mathlib.Core.Path.{_≡_};
 ghost use Prim.Native.Nat.{_≤_, _<_};
 ghost use lib.ListN.{length, getD};
-ghost use Rattle.definitions.specs.Limits.{machines, nodes, commands, bookLength, sheetLength, longestChain};
-ghost use Rattle.definitions.specs.Step.{counting};
-ghost use Rattle.definitions.specs.Book.{transitionWord, treeOf, WellFormed};
+ghost use Rattle.definitions.specs.Limits.{machines, nodes, commands, sheetLength, longestChain};
+ghost use Rattle.definitions.specs.Book.{treeOf, WellFormed};
 ghost use Rattle.definitions.specs.Sheet.{costOf, rowsOf};
 ghost use Rattle.definitions.specs.Truth.{nodeExit, BlankMachine, BlankNode, Named, Ended, TrueSheet};
 ghost use Rattle.book.specs.Decides.{Decides};
@@ -31,14 +30,6 @@ fn wide(x: u32) -> u64
     ensures { λ r. ⌜ (r ≡ x) × (r < exitLimit) ⌝ }
 {
     x as u64
-}
-
-// The transition of node n that counts for command x: target and cost in one word.
-pub fn counting(book: &[u32], n: u32, x: u32) -> u32
-    requires { ⌜ (length (now book) ≡ bookLength) × (n < nodes) × (x < commands) ⌝ }
-    ensures { λ r. ⌜ r ≡ transitionWord (counting (treeOf (now (book .entry))) n x) ⌝ }
-{
-    book::transition(book, n, x)
 }
 
 // The own exit cost of node n for command x: 0 for a plain node, and for a refined one what the sheet says of the machine below it. Whether n is
@@ -93,7 +84,7 @@ fn ended(book: &[u32], sheet: &[u32], m: u32, x: u32, c: u32) -> bool
     if book::owner(book, u) != m {
         return false;
     }
-    if counting(book, u, x) != book::BLANK {
+    if book::counting(book, u, x) != book::BLANK {
         return false;
     }
     adds_up(book, sheet, u, x, 0, c)
@@ -241,7 +232,7 @@ fn named(book: &[u32], sheet: &[u32], m: u32, n: u32, c: u32) -> bool
     if book::owner(book, u) != m {
         return false;
     }
-    let w = counting(book, u, x);
+    let w = book::counting(book, u, x);
     if w == book::BLANK {
         return false;
     }
@@ -257,7 +248,7 @@ fn relaxed_by(book: &[u32], sheet: &[u32], m: u32, n: u32, c: u32, x: u32) -> bo
     requires { ⌜ Holding (now book) (now sheet) × (m < machines) × (n < nodes) × (x < commands) ⌝ }
     ensures { λ r. ⌜ Decides r (RelaxedBy (treeOf (now (book .entry))) (rowsOf (now (sheet .entry))) m n c x) ⌝ }
 {
-    let w = counting(book, n, x);
+    let w = book::counting(book, n, x);
     let cost = sheet::cost(sheet, w / 65536 % book::NODES);
     let mut least = sheet::exit(sheet, m, x);
     let mut price = 0;

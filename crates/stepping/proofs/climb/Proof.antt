@@ -19,16 +19,16 @@ abbrev μ-loop : tie.MeasureT-loop
 loop-holds : tie.Need-loop-holds Inv-loop μ-loop
 loop-holds c = (c .before .pre .1, refl)
 
-transition-requires : tie.Need-transition-requires Inv-loop μ-loop
-transition-requires c κs =
+counting-requires : tie.Need-counting-requires Inv-loop μ-loop
+counting-requires c κs =
     let e = c .before .before in
-    (e .pre .0 .length, used-range (now (e .args .book)) (e .pre .0) (c .loop .n) (c .loop .inv .0), e .pre .2)
+    (e .pre .0, used-range (now (e .args .book)) (e .pre .0) (c .loop .n) (c .loop .inv .0), e .pre .2)
 
 returns : tie.Need-returns Inv-loop μ-loop
 returns c =
     let e = c .before .before .before .before in
     let l = c .before .before .loop in
-    sym (l .inv .1 ∙ transition-told (now (e .args .book)) (e .pre .0) (l .n) (l .inv .0) (e .args .x) (c .before .transition .ensures) (c .if1 .taken))
+    sym (l .inv .1 ∙ transition-told (now (e .args .book)) (e .pre .0) (l .n) (l .inv .0) (e .args .x) (c .before .counting .ensures) (c .if1 .taken))
 
 owner-requires : tie.Need-owner-requires Inv-loop μ-loop
 owner-requires c κs =
@@ -51,7 +51,7 @@ returns-2 c =
     let e = a .before .before .before .before in
     sym
     (l .inv .1
-    ∙ top-told (now (e .args .book)) (e .pre .0) (l .n) (l .inv .0) (e .args .x) (a .before .transition .ensures) (a .if1 .left)
+    ∙ top-told (now (e .args .book)) (e .pre .0) (l .n) (l .inv .0) (e .args .x) (a .before .counting .ensures) (a .if1 .left)
     (o .owner .ensures) (h .holder .ensures) (c .if2 .taken))
 
 -- the next turn
@@ -64,7 +64,7 @@ next c =
     let a = o .before in
     let l = a .before .before .loop in
     let e = a .before .before .before .before in
-    up-told (now (e .args .book)) (e .pre .0) (l .n) (l .inv .0) (e .args .x) (a .before .transition .ensures) (a .if1 .left)
+    up-told (now (e .args .book)) (e .pre .0) (l .n) (l .inv .0) (e .args .x) (a .before .counting .ensures) (a .if1 .left)
     (o .owner .ensures) (h .holder .ensures) (c .if2 .left)
 
 loop-less : tie.Need-loop-less Inv-loop μ-loop
@@ -80,7 +80,7 @@ climb-spec =
     Inv-loop
     μ-loop
     loop-holds
-    transition-requires
+    counting-requires
     returns
     owner-requires
     holder-requires
