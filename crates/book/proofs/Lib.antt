@@ -2,3 +2,4 @@ pub mod Places
 pub mod Stores
 pub mod Decide
 pub mod Counts
+pub mod Said

@@ -19,14 +19,14 @@ use Rattle.sheet.specs.Fields.{Mark}
 use Rattle.book.specs.Decides.{Decides}
 use Rattle.book.proofs.Counts.{no-counting, some-counting, counting-node}
 use Rattle.book.proofs.Decide.{decides-same, decides-equal}
-use Rattle.wellformed.proofs.Reading.{said-is, unsaid-is, unsaid}
-use Rattle.truesheet.specs.declared.OwnExit.{OwnExit}
-use Rattle.truesheet.specs.declared.OwnExit.the-variants.{Costs, Never}
-use Rattle.truesheet.specs.Meaning.{Exits}
+use Rattle.book.proofs.Said.{said-is, unsaid-is, unsaid}
+use Rattle.sheet.specs.declared.OwnExit.{OwnExit}
+use Rattle.sheet.specs.declared.OwnExit.the-variants.{Costs, Never}
+use Rattle.sheet.specs.Exits.{Exits}
 use Rattle.truesheet.specs.Fits.{AtMost, AddsUp, StartFits, RelaxedBy, RelaxedAt, FilledFits, NodeFits}
-use Rattle.truesheet.proofs.Reading.{ReadRows, cost-back, cost-is, blank-is, cost-said, cost-unsaid}
-use Rattle.truesheet.proofs.Exits.{exits-none, exits-some}
-use Rattle.truesheet.proofs.Machines.{is-stale, is-filled}
+use Rattle.sheet.proofs.Reading.{ReadRows, cost-back, cost-is, blank-is, cost-said, cost-unsaid}
+use Rattle.sheet.proofs.Exits.{exits-none, exits-some}
+use Rattle.sheet.proofs.Reading.{is-stale, is-filled}
 
 -- ---- rows with no names
 
