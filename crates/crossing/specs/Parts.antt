@@ -11,11 +11,10 @@ use Rattle.definitions.specs.Basics.{_>>=_, option}
 use Rattle.definitions.specs.Limits.{machines, nodes, commands, blank}
 use Rattle.definitions.specs.Tree.{Tree, Transition, over}
 use Rattle.definitions.specs.Step.{Climb, found, passed, climb, Arrival}
-use Rattle.definitions.specs.Book.{number, transitionOf}
+use Rattle.definitions.specs.Book.{transitionOf}
 use Rattle.definitions.specs.Sheet.{Rows}
 use Rattle.definitions.specs.Truth.{nodeExit}
 use Rattle.plantheory.specs.Search.{openedFor, land, planMove}
-use Rattle.search.specs.Search.{rowMove}
 use Rattle.search.specs.Parts.{at}
 
 -- ---- the opened machines
@@ -122,10 +121,6 @@ leaves exit way = exit >>= λ e. way >>= λ a. some (record { node = a .target; 
 unfoldable pub landMove : Tree → Rows → List ℕ → ℕ → ℕ → Option Arrival
 landMove t r lands n x = leaves (nodeExit t r n x) (finds t lands n x)
 
--- the move that two words of the tables say
-abbrev pub entryMove : ℕ → ℕ → Option Arrival
-entryMove v c = number v >>= λ w. some (record { node = w; cost = c })
-
 -- a transition's word whose target, if it says one, is a node
 abbrev pub InNodes : ℕ → Type 0
 InNodes w = (a : Transition) → transitionOf w ≡ some a → a .target < nodes
@@ -133,26 +128,3 @@ InNodes w = (a : Transition) → transitionOf w ≡ some a → a .target < nodes
 -- the moves that the tables hold: those of the nodes in opened machines
 unfoldable pub openMove : Tree → Rows → (ℕ → Bool) → ℕ → ℕ → Option Arrival
 openMove t r opened n x = cond (inOpened t opened n) (planMove t r opened n x) none
-
--- the tables have room for every node's moves
-pub record TableRoom (target price : List ℕ) : Type 0 where
-  pub target-room : length target ≡ commands * nodes
-  pub price-room : length price ≡ commands * nodes
-
--- the row of node n has no move
-abbrev pub BlankRow : ℕ → List ℕ → List ℕ → Type 0
-BlankRow n target price = (x : ℕ) → x < commands → rowMove target price n x ≡ none
-
--- the entry of node n for x has the move o, and the other entries are as they were
-pub record EntryFilled (o : Option Arrival) (n x : ℕ) (target price target′ price′ : List ℕ) : Type 0 where
-  pub here : rowMove target′ price′ n x ≡ o
-  pub others : (u y : ℕ) → y < commands → (u ≡ n → y ≡ x → ⊥) → rowMove target′ price′ u y ≡ rowMove target price u y
-
--- the row of node n has these moves, and the other rows are as they were
-pub record RowFilled (move : ℕ → Option Arrival) (n : ℕ) (target price target′ price′ : List ℕ) : Type 0 where
-  pub here : (x : ℕ) → x < commands → rowMove target′ price′ n x ≡ move x
-  pub others : (u x : ℕ) → x < commands → (u ≡ n → ⊥) → rowMove target′ price′ u x ≡ rowMove target price u x
-
--- the tables hold the moves of every node
-pub record Tabled (move : ℕ → ℕ → Option Arrival) (target price : List ℕ) : Type 0 where
-  pub moves : (n x : ℕ) → n < nodes → x < commands → rowMove target price n x ≡ move n x

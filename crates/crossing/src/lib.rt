@@ -11,11 +11,13 @@ ghost use Rattle.definitions.specs.Tree.{UsedNode};
 ghost use Rattle.definitions.specs.Book.{treeOf, transitionOf, WellFormed};
 ghost use Rattle.definitions.specs.Sheet.{rowsOf};
 ghost use Rattle.plantheory.specs.Search.{openedFor, land};
+ghost use Rattle.search.specs.Search.{entryMove};
+ghost use Rattle.search.specs.Tables.{TableRoom, FoundRoom, BlankRow, EntryFilled, RowFilled, Tabled};
 ghost use Rattle.sheet.specs.Exits.{Readable, exitOf, Exits};
-ghost use Rattle.crossing.specs.Crossing.{Crossable, CrossRoom, Crossed};
+ghost use Rattle.crossing.specs.Crossing.{Crossable, Crossed};
 ghost use Rattle.crossing.specs.Parts.{isOpen, Opens, inOpened, OpenedFor, NodeList, Itself, LandedAbove, Landings};
 ghost use Rattle.crossing.specs.Parts.{finds, leaves, landMove, UpRoom, OwnerRow, MachineRow, RootRow, HandedTo, HandedAbove, Prepared};
-ghost use Rattle.crossing.specs.Parts.{entryMove, InNodes, openMove, TableRoom, BlankRow, EntryFilled, RowFilled, Tabled};
+ghost use Rattle.crossing.specs.Parts.{InNodes, openMove};
 use sheet::OwnExit;
 use sheet::wide;
 
@@ -264,7 +266,7 @@ fn rows(
     requires { ⌜ Readable (now book) (now sheet) × (length (now opened) ≡ machines)
         × Prepared (treeOf (now book)) (isOpen (now opened)) (now lands) (now up)
         × TableRoom (now target) (now price) × ((n : ℕ) → n < nodes → BlankRow n (now target) (now price)) ⌝ }
-    ensures { λ _. ⌜ Tabled (openMove (treeOf (now (book .entry))) (rowsOf (now (sheet .entry))) (isOpen (now (opened .entry))))
+    ensures { λ _. ⌜ Tabled (openMove (treeOf (now (book .entry))) (rowsOf (now (sheet .entry))) (isOpen (now (opened .entry)))) nodes
         (now (target .exit)) (now (price .exit)) ⌝ }
 {
     let mut n = 0u32;
@@ -278,7 +280,7 @@ fn rows(
 fn tables(book: &[u32], sheet: &[u32], a: u32, b: u32, target: &mut [u32], price: &mut [u64])
     requires { ⌜ Readable (now book) (now sheet) × UsedNode (treeOf (now book)) a × UsedNode (treeOf (now book)) b
         × TableRoom (now target) (now price) × ((n : ℕ) → n < nodes → BlankRow n (now target) (now price)) ⌝ }
-    ensures { λ _. ⌜ Tabled (openMove (treeOf (now (book .entry))) (rowsOf (now (sheet .entry))) (openedFor (treeOf (now (book .entry))) a b))
+    ensures { λ _. ⌜ Tabled (openMove (treeOf (now (book .entry))) (rowsOf (now (sheet .entry))) (openedFor (treeOf (now (book .entry))) a b)) nodes
         (now (target .exit)) (now (price .exit)) ⌝ }
 {
     let mut opened = [0u32; 64];
@@ -303,7 +305,7 @@ pub fn cross(
     before: &mut [u32],
     by: &mut [u32],
 )
-    requires { ⌜ Crossable (now book) (now sheet) a b × CrossRoom (now dist) (now before) (now by) ⌝ }
+    requires { ⌜ Crossable (now book) (now sheet) a b × FoundRoom (now dist) (now before) (now by) ⌝ }
     ensures { λ _. ⌜ Crossed (treeOf (now (book .entry))) (rowsOf (now (sheet .entry))) a b
         (now (dist .exit)) (now (before .exit)) (now (by .exit)) ⌝ }
 {

@@ -17,8 +17,7 @@ use Rattle.definitions.proofs.Options.{none-some, true-false}
 use Rattle.definitions.proofs.Words.{present-word, no-start}
 use Rattle.sheet.specs.Fields.{Mark}
 use Rattle.truesheet.proofs.Lent.{lent-length, lent-torn, lent-untrue, lent-past}
-use Rattle.sheet.proofs.Reading.{rowsOf-read, cost-said, cost-unsaid}
-use Rattle.sheet.proofs.Reading.{is-stale, is-filled}
+use Rattle.sheet.proofs.Reading.{rowsOf-read, is-stale, is-filled, cost-said, cost-unsaid}
 
 module _ (book sheet : List ℕ) (m x : ℕ) where
   -- what a refusal says, and what is said where none holds

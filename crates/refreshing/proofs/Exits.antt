@@ -19,9 +19,9 @@ use Rattle.search.specs.Search.{unreached, reached}
 use Rattle.search.specs.Parts.{at}
 use Rattle.sheet.specs.Fields.{Leaves, withExit, withLast}
 use Rattle.sheet.proofs.Stores.{leaves-then}
+use Rattle.search.proofs.Reading.{reached-is, reached-some}
 use Rattle.refreshing.specs.Parts.{ExitsKept, CostFits, distances, largestDistance, Way, LeavesAt, WayCosts, Cheapest}
 use Rattle.refreshing.specs.Parts.{IsNear, NearOut, ExitWritten, ExitsWritten}
-use Rattle.refreshing.proofs.Certified.{reached-is, reached-some}
 use Rattle.refreshing.proofs.Row.{kept-exit, cheapest-kept}
 
 -- ---- what leaving from one node costs

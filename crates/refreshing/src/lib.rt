@@ -7,11 +7,12 @@ ghost use Rattle.definitions.specs.Limits.{machines, nodes, commands, sheetLeng
 ghost use Rattle.definitions.specs.Book.{number, treeOf, WellFormed};
 ghost use Rattle.definitions.specs.Sheet.{costOf, rowsOf};
 ghost use Rattle.definitions.specs.Truth.{nodeExit, move, TrueSheet};
-ghost use Rattle.search.specs.Search.{reached};
+ghost use Rattle.search.specs.Search.{reached, entryMove};
 ghost use Rattle.search.specs.Parts.{at};
+ghost use Rattle.search.specs.Tables.{TableRoom, FoundRoom, Tabled};
 ghost use Rattle.sheet.specs.Exits.{Readable};
 ghost use Rattle.sheet.specs.Fields.{Leaves};
-ghost use Rattle.refreshing.specs.Parts.{Gathered, placed, entryMove, Placing, Tabled, TableRoom, Searches, FoundRoom};
+ghost use Rattle.refreshing.specs.Parts.{Gathered, placed, memberMove, Placing, Searches};
 ghost use Rattle.refreshing.specs.Parts.{memberOf, withNode, CostFits, PlaceFits, Writable, NodesWritten};
 ghost use Rattle.refreshing.specs.Parts.{distances, largestDistance, LeavesAt, WayCosts, Cheapest, IsNear, Near, NearOut};
 ghost use Rattle.refreshing.specs.Parts.{ExitWritten, ExitsWritten};
@@ -117,8 +118,8 @@ fn tables(
 )
     requires { ⌜ Readable (now book) (now sheet) × ((m : ℕ) × Gathered (treeOf (now book)) m nodes k (now members) (now places))
         × TableRoom (now target) (now price) ⌝ }
-    ensures { λ _. ⌜ Tabled (treeOf (now (book .entry))) (rowsOf (now (sheet .entry))) k (at (now (members .entry)))
-        (at (now (places .entry))) (now (target .exit)) (now (price .exit)) ⌝ }
+    ensures { λ _. ⌜ Tabled (memberMove (treeOf (now (book .entry))) (rowsOf (now (sheet .entry))) (at (now (members .entry)))
+        (at (now (places .entry)))) k (now (target .exit)) (now (price .exit)) ⌝ }
 {
     let mut j = 0u32;
     while j < 16 * k {

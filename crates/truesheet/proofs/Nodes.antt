@@ -24,9 +24,8 @@ use Rattle.sheet.specs.declared.OwnExit.{OwnExit}
 use Rattle.sheet.specs.declared.OwnExit.the-variants.{Costs, Never}
 use Rattle.sheet.specs.Exits.{Exits}
 use Rattle.truesheet.specs.Fits.{AtMost, AddsUp, StartFits, RelaxedBy, RelaxedAt, FilledFits, NodeFits}
-use Rattle.sheet.proofs.Reading.{ReadRows, cost-back, cost-is, blank-is, cost-said, cost-unsaid}
+use Rattle.sheet.proofs.Reading.{ReadRows, is-stale, is-filled, cost-back, cost-is, blank-is, cost-said, cost-unsaid}
 use Rattle.sheet.proofs.Exits.{exits-none, exits-some}
-use Rattle.sheet.proofs.Reading.{is-stale, is-filled}
 
 -- ---- rows with no names
 
