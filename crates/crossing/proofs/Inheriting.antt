@@ -14,20 +14,22 @@ use borrow.Author.Tests.{eq-eqb, ne-eqb, eqb-true}
 use Rattle.definitions.specs.Basics.{_>>=_}
 use Rattle.definitions.specs.Limits.{machines, nodes, commands, costs, absent, blank}
 use Rattle.definitions.specs.Tree.{Tree, Transition, UsedNode, Sound, over}
-use Rattle.definitions.specs.Step.{counting, climb}
+use Rattle.definitions.specs.Step.{counting, leaving, Climb, past, climb}
 use Rattle.definitions.specs.Book.{word, transitionWord, transitionOf, treeOf, WellFormed}
 use Rattle.definitions.proofs.Options.{some-same, equal-or-not}
-use Rattle.definitions.proofs.Path.{climb-own}
+use Rattle.definitions.proofs.Path.{climb-own, leaving-free}
+use Rattle.definitions.proofs.Realize.{past-zero}
 use Rattle.definitions.proofs.Words.{transition-word}
 use Rattle.definitions.proofs.Commands.{over-top, over-up}
 use Rattle.definitions.proofs.Simple.{over-own}
 use Rattle.plantheory.specs.Search.{openedFor}
 use Rattle.search.specs.Parts.{at}
 use Rattle.book.proofs.Counts.{no-counting, some-counting, counting-node}
-use Rattle.stepping.proofs.Laws.{top-root, climb-ends, climb-up}
+use Rattle.stepping.proofs.Laws.{top-root}
+use Rattle.stepping.proofs.Climbing.{climb-ends, climb-up}
+use Rattle.stepping.proofs.Upward.{own, top, held}
 use Rattle.crossing.specs.Parts.{NodeList, landed, finds, inherits, UpRoom, Inherited, OwnerRow, RootRow, Handed, HandedTo, HandedAbove}
 use Rattle.crossing.specs.Parts.{isOpen, OpenedFor, Landings, Prepared}
-use Rattle.crossing.proofs.Upward.{own, top, held}
 use Rattle.crossing.proofs.Opening.{either, zeros}
 
 -- ---- what a command finds
@@ -43,9 +45,9 @@ module _ {t : Tree} (s : Sound t) (lands : List ℕ) {n m : ℕ} (x : ℕ) (own 
   unfolding finds inherits
   finds-inherited free = go (t .holder m) refl
     where
-      go : (o : Option ℕ) → t .holder m ≡ o → landed lands (climb t (t .root) n x) ≡ (o >>= λ h. landed lands (climb t (t .root) h x))
-      go none top = ap (landed lands) (climb-ends t s x own free top)
-      go (some h) hold = ap (landed lands) (climb-up t s x own free hold)
+      go : (o : Option ℕ) → t .holder m ≡ o → landed lands (climb t (t .root) n x) ≡ (o >>= λ h. landed lands (past (leaving t m) (climb t (t .root) h x)))
+      go none top = ap (landed lands) (climb-ends s x own free top)
+      go (some h) hold = ap (landed lands) (climb-up s x own free hold)
 
 -- the word of a transition to node v
 word-says : (v c : ℕ) → v < nodes → c < costs → transitionOf (v * costs + c) ≡ some (record { target = v; cost = c })
@@ -78,10 +80,12 @@ module _ (book : List ℕ) (w : WellFormed book) (lands : List ℕ) (n x : ℕ) 
 
 -- ---- the list of what machines inherit, word by word
 
--- a machine that node h holds inherits what is found from h
+-- a machine that node h holds inherits what is found from h, since leaving costs nothing
 pub inherits-held : (t : Tree) (lands : List ℕ) (m x : ℕ) {h : ℕ} → t .holder m ≡ some h → inherits t lands m x ≡ finds t lands h x
-unfolding inherits
-inherits-held t lands m x hold = rw hold
+unfolding finds inherits
+inherits-held t lands m x {h} hold =
+    let up : Climb = climb t (t .root) h x in
+    rw hold (ap (λ (l : ℕ). landed lands (past l up)) (leaving-free t m) ∙ ap (landed lands) (sym (past-zero up)))
 
 module _ {t : Tree} {lands : List ℕ} {m : ℕ} where
   pub handed-starts : (up : List ℕ) → Handed t lands (λ p x. (p ≡ m) × (x < 0)) up up

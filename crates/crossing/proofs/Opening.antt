@@ -18,8 +18,8 @@ use Rattle.definitions.proofs.Words.{present-word, no-owner, owner-range}
 use Rattle.definitions.proofs.Commands.{over-top, over-up}
 use Rattle.plantheory.specs.Search.{openedFor}
 use Rattle.stepping.proofs.Laws.{used-range}
+use Rattle.stepping.proofs.Upward.{own, top, held, used-holder}
 use Rattle.crossing.specs.Parts.{isOpen, Opens, OpenedFor, inOpened}
-use Rattle.crossing.proofs.Upward.{own, top, held, used-holder}
 
 -- ---- one machine more
 

@@ -10,7 +10,7 @@ use lib.ListN.{length}
 use Rattle.definitions.specs.Basics.{_>>=_, option}
 use Rattle.definitions.specs.Limits.{machines, nodes, commands, blank}
 use Rattle.definitions.specs.Tree.{Tree, Transition, over}
-use Rattle.definitions.specs.Step.{Climb, found, passed, climb, Arrival}
+use Rattle.definitions.specs.Step.{leaving, Climb, found, passed, past, climb, Arrival}
 use Rattle.definitions.specs.Book.{transitionOf}
 use Rattle.definitions.specs.Sheet.{Rows}
 use Rattle.definitions.specs.Truth.{nodeExit}
@@ -71,9 +71,10 @@ landed lands (passed c) = none
 unfoldable pub finds : Tree → List ℕ → ℕ → ℕ → Option Transition
 finds t lands n x = landed lands (climb t (t .root) n x)
 
--- what a node of machine m that has no transition for x takes over: what x finds from the node that holds m, and for the root nothing
+-- what a node of machine m that has no transition for x takes over: what x finds from the node that holds m, after m was left, and for the
+-- root nothing
 unfoldable pub inherits : Tree → List ℕ → ℕ → ℕ → Option Transition
-inherits t lands m x = t .holder m >>= λ h. finds t lands h x
+inherits t lands m x = t .holder m >>= λ h. landed lands (past (leaving t m) (climb t (t .root) h x))
 
 -- the list has a word for every machine and command
 abbrev pub UpRoom : List ℕ → Type 0

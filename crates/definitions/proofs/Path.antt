@@ -226,6 +226,11 @@ pub climb-on : {t : Tree} → Sound t → (top x : ℕ) {n m h : ℕ} → t .own
 unfolding climb look
 climb-on {t} s top x {n} {m} {h} o other eh e = rw (path-on s o eh, e, isAt-other m top o other, o)
 
+-- leaving a machine costs nothing
+pub leaving-free : (t : Tree) (m : ℕ) → leaving t m ≡ 0
+unfolding leaving
+leaving-free t m = refl
+
 -- nothing is found where the climb has passed
 pub passed-found : {k : Climb} {l u v c : ℕ} → k ≡ passed l → k ≡ found u v c → ⊥
 passed-found p q = let z : _≡_ {A = ℕ} 0 1 = cc in omega arith

@@ -10,6 +10,7 @@ use Rattle.definitions.specs.Book.{word}
 use Rattle.definitions.specs.Sheet.{Rows, costWord}
 use Rattle.definitions.specs.Truth.{nodeExit}
 use Rattle.definitions.proofs.Options.{none-some, some-same}
+use Rattle.definitions.proofs.Path.{leaving-free}
 use Rattle.definitions.proofs.Words.{present-word, below-range, no-below}
 use Rattle.definitions.proofs.Local.{exit-plain, exit-refined}
 use Rattle.sheet.specs.declared.OwnExit.{OwnExit}
@@ -26,11 +27,6 @@ pub exits-some : {o : Option ℕ} {a : OwnExit} {c : ℕ} → Exits o a → a �
 exits-some {c = c} e costs = (sym (e .is) ∙ ap exitOf costs, e .small c (ap exitOf costs))
 
 -- ---- how it is found
-
--- leaving a machine costs nothing
-no-leaving : (t : Tree) (m : ℕ) → leaving t m ≡ 0
-unfolding leaving
-no-leaving t m = refl
 
 -- a refined node is never left where the machine below it is not
 exit-never : (t : Tree) (r : Rows) (n x : ℕ) {b : ℕ} → t .below n ≡ some b → r .exit b x ≡ none → nodeExit t r n x ≡ none
@@ -61,5 +57,5 @@ module _ {t : Tree} (s : Sound t) {r : Rows} (read : ReadRows r) (n x : ℕ) {b 
     pub exits-costs : (e ≡ blank → ⊥) → {w : ℕ} → w ≡ e → w < exitLimit → Exits (nodeExit t r n x) (Costs w)
     exits-costs there {w} same small =
         let exit : nodeExit t r n x ≡ some (e + leaving t b) = exit-refined t r n x holds (cost-said (r .exit b x) below-exit there) in
-        let cost : w ≡ e + leaving t b = omega (arith, no-leaving t b) in
+        let cost : w ≡ e + leaving t b = omega (arith, leaving-free t b) in
         record { is = ap some cost ∙ sym exit; small = λ k f. omega (arith, some-same refl f) }
