@@ -3,3 +3,4 @@ pub mod Stores
 pub mod Decide
 pub mod Counts
 pub mod Said
+pub mod Chosen

@@ -24,13 +24,14 @@ use Rattle.definitions.proofs.Commands.{over-top, over-up}
 use Rattle.definitions.proofs.Simple.{over-own}
 use Rattle.plantheory.specs.Search.{openedFor}
 use Rattle.search.specs.Parts.{at}
+use Rattle.book.proofs.Chosen.{zeros-at}
 use Rattle.book.proofs.Counts.{no-counting, some-counting, counting-node}
 use Rattle.stepping.proofs.Laws.{top-root}
 use Rattle.stepping.proofs.Climbing.{climb-ends, climb-up}
 use Rattle.stepping.proofs.Upward.{own, top, held}
 use Rattle.crossing.specs.Parts.{NodeList, landed, finds, inherits, UpRoom, Inherited, OwnerRow, RootRow, Handed, HandedTo, HandedAbove}
 use Rattle.crossing.specs.Parts.{isOpen, OpenedFor, Landings, Prepared}
-use Rattle.crossing.proofs.Opening.{either, zeros}
+use Rattle.crossing.proofs.Opening.{either}
 
 -- ---- what a command finds
 
@@ -161,7 +162,7 @@ handed-row {t} n handed m own x range = handed .told m x range (over-own t own)
 -- a list of zeros has the root's row
 pub root-zeros : {t : Tree} → Sound t → (lands : List ℕ) (k : ℕ) → RootRow t lands (replicate k 0)
 unfolding inherits transitionOf
-root-zeros {t} s lands k x range = rw (zeros k (commands * t .root + x), s .root-free)
+root-zeros {t} s lands k x range = rw (zeros-at k (commands * t .root + x), s .root-free)
 
 -- after two such calls the machines above a and b have their rows
 pub prepared : {t : Tree} (words : List ℕ) {lands : List ℕ} (a b : ℕ) {up one two : List ℕ} → OpenedFor t a b words → Landings t (isOpen words) lands

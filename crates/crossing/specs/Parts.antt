@@ -5,7 +5,6 @@ use mathlib.Core.Bool.{Bool, true, false, cond, _||_}
 use mathlib.Core.Option.{Option, none, some}
 use mathlib.Core.List.{List}
 use Prim.Native.Nat.{ℕ, _+_, _*_, _-_, _<_}
-use lib.Dec.{eqb}
 use lib.ListN.{length}
 use Rattle.definitions.specs.Basics.{_>>=_, option}
 use Rattle.definitions.specs.Limits.{machines, nodes, commands, blank}
@@ -14,6 +13,7 @@ use Rattle.definitions.specs.Step.{leaving, Climb, found, passed, past, climb, 
 use Rattle.definitions.specs.Book.{transitionOf}
 use Rattle.definitions.specs.Sheet.{Rows}
 use Rattle.definitions.specs.Truth.{nodeExit}
+use Rattle.book.specs.Chosen.{chosen}
 use Rattle.plantheory.specs.Search.{openedFor, land, planMove}
 use Rattle.search.specs.Parts.{at}
 
@@ -21,7 +21,7 @@ use Rattle.search.specs.Parts.{at}
 
 -- whether a list of words, one for each machine, says that machine m is opened: its word is 1
 unfoldable pub isOpen : List ℕ → ℕ → Bool
-isOpen words m = eqb (at words m) 1
+isOpen words m = chosen words m
 
 -- the machine of node s and all above it are opened, and the others are as they were
 pub record Opens (t : Tree) (s : ℕ) (old new : List ℕ) : Type 0 where
