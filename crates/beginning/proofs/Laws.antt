@@ -18,7 +18,7 @@ use Rattle.definitions.proofs.Words.{same-rows, encode-treeOf, marks-words}
 use Rattle.book.specs.Fields.{Holds, withRoot, withStartOf, withOwner}
 use Rattle.book.proofs.Stores.{holds-then}
 use Rattle.sheet.specs.Fields.{Marks, Leaves, withMark}
-use Rattle.marking.specs.Chosen.{chosen, upTo}
+use Rattle.book.specs.Chosen.{chosen, upTo}
 use Rattle.clearing.specs.Gone.{NodesGone, MachinesGone, withoutMachines, withoutMachineRows}
 use Rattle.clearing.proofs.Laws.{left-then, nodes-all, machines-all}
 use Rattle.editing.specs.Edited.{Edited}

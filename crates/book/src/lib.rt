@@ -5,7 +5,8 @@ ghost use Prim.Native.Nat.{_<_};
 ghost use lib.ListN.{length};
 ghost use Rattle.definitions.specs.Limits.{machines, nodes, commands, bookLength};
 ghost use Rattle.definitions.specs.Book.{word, transitionWord, machineFields, nodeFields, machineField, nodeField, treeOf};
-ghost use Rattle.definitions.specs.Book.{number, transitionOf};
+ghost use Rattle.definitions.specs.Book.{number, transitionOf, WellFormed};
+ghost use Rattle.definitions.specs.Step.{counting};
 ghost use Rattle.definitions.specs.Edit.{withTransition};
 ghost use Rattle.book.specs.Fields.{Holds, withRoot, withHolder, withStartOf, withOwner, withBelow, withoutTransitions};
 ghost use Rattle.book.specs.Fields.{withMachineField, withNodeField, withoutMachine, withoutNode};
@@ -89,6 +90,14 @@ pub fn transition(book: &[u32], n: u32, x: u32) -> u32
     ensures { λ r. ⌜ r ≡ transitionWord (treeOf (now (book .entry)) .transition n x) ⌝ }
 {
     node_word(book, n, 2 + x)
+}
+
+// The transition of node n that counts for command x, as a step and every sheet mean it: target and cost in one word, BLANK for none.
+pub fn counting(book: &[u32], n: u32, x: u32) -> u32
+    requires { ⌜ WellFormed (now book) × (n < nodes) × (x < commands) ⌝ }
+    ensures { λ r. ⌜ r ≡ transitionWord (counting (treeOf (now (book .entry))) n x) ⌝ }
+{
+    transition(book, n, x)
 }
 
 // Makes v the word at place k of machine m's record; every other word stays.

@@ -17,10 +17,10 @@ use Rattle.book.specs.Fields.{withoutNode}
 use Rattle.book.proofs.Stores.{holds-then}
 use Rattle.sheet.specs.Fields.{withMark, withBlankMachine}
 use Rattle.sheet.proofs.Stores.{leaves-then}
-use Rattle.marking.specs.Chosen.{only, upTo}
-use Rattle.marking.specs.Stale.{withBlankNodes}
-use Rattle.marking.proofs.Chosen.{none-up, none-only, one-only, up-more, unless-both}
-use Rattle.marking.proofs.Blanks.{blank-both}
+use Rattle.book.specs.Chosen.{only, upTo}
+use Rattle.sheet.specs.Fields.{withBlankNodes}
+use Rattle.book.proofs.Chosen.{none-up, none-only, one-only, up-more, unless-both}
+use Rattle.sheet.proofs.Stores.{blank-both}
 use Rattle.clearing.specs.Gone.{Sized, Left, withoutNodes, withoutMachines, withoutMachineRows}
 use Rattle.clearing.specs.Gone.{NodeDropped, MachineDropped, NodesGone, MachinesGone}
 

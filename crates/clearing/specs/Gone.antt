@@ -11,7 +11,7 @@ use Rattle.definitions.specs.Book.{treeOf}
 use Rattle.definitions.specs.Sheet.{Rows, rowsOf}
 use Rattle.book.specs.Fields.{Holds, withoutNode, withoutMachine}
 use Rattle.sheet.specs.Fields.{Leaves, withMark, withBlankMachine, withBlankNode}
-use Rattle.marking.specs.Stale.{withBlankNodes}
+use Rattle.sheet.specs.Fields.{withBlankNodes}
 
 -- a book and a sheet of the right lengths
 pub record Sized (ws rs : List ℕ) : Type 0 where

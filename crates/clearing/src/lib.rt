@@ -2,7 +2,7 @@
 // mark of a machine 0. A list has 1 at each number that falls out of use.
 ghost use Prim.Native.Nat.{_<_};
 ghost use Rattle.definitions.specs.Limits.{machines, nodes};
-ghost use Rattle.marking.specs.Chosen.{chosen, only, upTo};
+ghost use Rattle.book.specs.Chosen.{chosen, only, upTo};
 ghost use Rattle.clearing.specs.Gone.{Sized, NodeDropped, MachineDropped, NodesGone, MachinesGone};
 
 // Leaves the record and the row of node n as an unused node has them.

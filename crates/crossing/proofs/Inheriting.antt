@@ -14,36 +14,41 @@ use borrow.Author.Tests.{eq-eqb, ne-eqb, eqb-true}
 use Rattle.definitions.specs.Basics.{_>>=_}
 use Rattle.definitions.specs.Limits.{machines, nodes, commands, costs, absent, blank}
 use Rattle.definitions.specs.Tree.{Tree, Transition, UsedNode, Sound, over}
-use Rattle.definitions.specs.Step.{climb}
+use Rattle.definitions.specs.Step.{counting, leaving, Climb, past, climb}
 use Rattle.definitions.specs.Book.{word, transitionWord, transitionOf, treeOf, WellFormed}
 use Rattle.definitions.proofs.Options.{some-same, equal-or-not}
-use Rattle.definitions.proofs.Words.{transition-word, target-range, no-transition, some-transition}
+use Rattle.definitions.proofs.Path.{climb-own, leaving-free}
+use Rattle.definitions.proofs.Realize.{past-zero}
+use Rattle.definitions.proofs.Words.{transition-word}
 use Rattle.definitions.proofs.Commands.{over-top, over-up}
 use Rattle.definitions.proofs.Simple.{over-own}
 use Rattle.plantheory.specs.Search.{openedFor}
 use Rattle.search.specs.Parts.{at}
-use Rattle.stepping.proofs.Laws.{top-root, climb-here, climb-ends, climb-up}
+use Rattle.book.proofs.Chosen.{zeros-at}
+use Rattle.book.proofs.Counts.{no-counting, some-counting, counting-node}
+use Rattle.stepping.proofs.Laws.{top-root}
+use Rattle.stepping.proofs.Climbing.{climb-ends, climb-up}
+use Rattle.stepping.proofs.Upward.{own, top, held}
 use Rattle.crossing.specs.Parts.{NodeList, landed, finds, inherits, UpRoom, Inherited, OwnerRow, RootRow, Handed, HandedTo, HandedAbove}
 use Rattle.crossing.specs.Parts.{isOpen, OpenedFor, Landings, Prepared}
-use Rattle.crossing.proofs.Upward.{own, top, held}
-use Rattle.crossing.proofs.Opening.{either, zeros}
+use Rattle.crossing.proofs.Opening.{either}
 
 -- ---- what a command finds
 
 module _ {t : Tree} (s : Sound t) (lands : List ℕ) {n m : ℕ} (x : ℕ) (own : t .owner n ≡ some m) where
   -- a node's own transition
-  finds-own : {a : Transition} → t .transition n x ≡ some a → finds t lands n x ≡ some (record { target = at lands (a .target); cost = a .cost })
+  finds-own : {a : Transition} → counting t n x ≡ some a → finds t lands n x ≡ some (record { target = at lands (a .target); cost = a .cost })
   unfolding finds
-  finds-own {a} has = ap (landed lands) (climb-here t s x own a has)
+  finds-own {a} has = ap (landed lands) (climb-own t (t .root) n x a has)
 
   -- or else what its machine inherits
-  finds-inherited : t .transition n x ≡ none → finds t lands n x ≡ inherits t lands m x
+  finds-inherited : counting t n x ≡ none → finds t lands n x ≡ inherits t lands m x
   unfolding finds inherits
   finds-inherited free = go (t .holder m) refl
     where
-      go : (o : Option ℕ) → t .holder m ≡ o → landed lands (climb t (t .root) n x) ≡ (o >>= λ h. landed lands (climb t (t .root) h x))
-      go none top = ap (landed lands) (climb-ends t s x own free top)
-      go (some h) hold = ap (landed lands) (climb-up t s x own free hold)
+      go : (o : Option ℕ) → t .holder m ≡ o → landed lands (climb t (t .root) n x) ≡ (o >>= λ h. landed lands (past (leaving t m) (climb t (t .root) h x)))
+      go none top = ap (landed lands) (climb-ends s x own free top)
+      go (some h) hold = ap (landed lands) (climb-up s x own free hold)
 
 -- the word of a transition to node v
 word-says : (v c : ℕ) → v < nodes → c < costs → transitionOf (v * costs + c) ≡ some (record { target = v; cost = c })
@@ -54,14 +59,14 @@ word-says v c node cost =
 
 -- the same, from what the words say
 module _ (book : List ℕ) (w : WellFormed book) (lands : List ℕ) (n x : ℕ) {m a : ℕ} (own-n : treeOf book .owner n ≡ some m)
-    (is : a ≡ transitionWord (treeOf book .transition n x)) where
+    (is : a ≡ transitionWord (counting (treeOf book) n x)) where
   find-inherited : a ≡ blank → (up : ℕ) → transitionOf up ≡ inherits (treeOf book) lands m x → transitionOf up ≡ finds (treeOf book) lands n x
-  find-inherited free up says = says ∙ sym (finds-inherited (w .sound) lands x own-n (no-transition (treeOf book) (w .sound) n x is free))
+  find-inherited free up says = says ∙ sym (finds-inherited (w .sound) lands x own-n (no-counting (w .sound) n x is free))
 
   find-own : NodeList lands → (a ≡ blank → ⊥) → transitionOf (at lands (a / costs % nodes) * costs + a % costs) ≡ finds (treeOf book) lands n x
   find-own list there =
-      let has = some-transition (treeOf book) (w .sound) n x is there in
-      let target : a / costs < nodes = target-range (treeOf book) (w .sound) n x _ has .1 in
+      let has = some-counting (w .sound) n x is there in
+      let target : a / costs < nodes = counting-node (w .sound) n x is there in
       let same : a / costs % nodes ≡ a / costs = omega arith in
       let says : transitionOf (at lands (a / costs) * costs + a % costs) ≡ some (record { target = at lands (a / costs); cost = a % costs }) =
       word-says (at lands (a / costs)) (a % costs) (list .inside (a / costs) target) (omega arith) in
@@ -76,10 +81,12 @@ module _ (book : List ℕ) (w : WellFormed book) (lands : List ℕ) (n x : ℕ) 
 
 -- ---- the list of what machines inherit, word by word
 
--- a machine that node h holds inherits what is found from h
+-- a machine that node h holds inherits what is found from h, since leaving costs nothing
 pub inherits-held : (t : Tree) (lands : List ℕ) (m x : ℕ) {h : ℕ} → t .holder m ≡ some h → inherits t lands m x ≡ finds t lands h x
-unfolding inherits
-inherits-held t lands m x hold = rw hold
+unfolding finds inherits
+inherits-held t lands m x {h} hold =
+    let up : Climb = climb t (t .root) h x in
+    rw hold (ap (λ (l : ℕ). landed lands (past l up)) (leaving-free t m) ∙ ap (landed lands) (sym (past-zero up)))
 
 module _ {t : Tree} {lands : List ℕ} {m : ℕ} where
   pub handed-starts : (up : List ℕ) → Handed t lands (λ p x. (p ≡ m) × (x < 0)) up up
@@ -155,7 +162,7 @@ handed-row {t} n handed m own x range = handed .told m x range (over-own t own)
 -- a list of zeros has the root's row
 pub root-zeros : {t : Tree} → Sound t → (lands : List ℕ) (k : ℕ) → RootRow t lands (replicate k 0)
 unfolding inherits transitionOf
-root-zeros {t} s lands k x range = rw (zeros k (commands * t .root + x), s .root-free)
+root-zeros {t} s lands k x range = rw (zeros-at k (commands * t .root + x), s .root-free)
 
 -- after two such calls the machines above a and b have their rows
 pub prepared : {t : Tree} (words : List ℕ) {lands : List ℕ} (a b : ℕ) {up one two : List ℕ} → OpenedFor t a b words → Landings t (isOpen words) lands

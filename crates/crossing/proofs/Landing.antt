@@ -23,8 +23,8 @@ use Rattle.plantheory.specs.Search.{openedFor, landF, land}
 use Rattle.plantheory.proofs.Landing.{land-there}
 use Rattle.search.specs.Parts.{at}
 use Rattle.stepping.proofs.Laws.{used-range, down-told}
+use Rattle.stepping.proofs.Upward.{own, top, held, used-holder}
 use Rattle.crossing.specs.Parts.{isOpen, OpenedFor, Itself, LandsAt, LandedAbove, Landings}
-use Rattle.crossing.proofs.Upward.{own, top, held, used-holder}
 use Rattle.crossing.proofs.Opening.{either}
 
 -- ---- in a tree

@@ -1,4 +1,3 @@
-pub mod Upward
 pub mod Opening
 pub mod Landing
 pub mod Inheriting

@@ -1,34 +1,30 @@
 -- The list of opened machines: the walk up from a node, machine by machine, and what the list says in the end. Assumes nothing.
 use mathlib.Core.Path.{_≡_, refl, sym, _∙_, ap, fun-ext}
-use mathlib.Core.Logic.{_⊎_, inl, inr, ⊎-elim}
+use mathlib.Core.Logic.{_⊎_, inl, inr}
 use mathlib.Core.Bool.{Bool, true, false, _||_, or-true, or-false, or-comm}
 use mathlib.Core.Option.{some}
 use mathlib.Core.List.{List}
-use Prim.Native.Nat.{ℕ, zero, suc, _<_}
+use Prim.Native.Nat.{ℕ, _<_}
 use native.Mathlib.Omega.{arith}
 use lib.Dec.{eqb}
 use lib.ListN.{length, getD, set, replicate, length-set}
-use lib.Seq.{getD-set-same, getD-set-other}
-use borrow.Author.Tests.{eq-eqb, ne-eqb}
 use Rattle.definitions.specs.Limits.{machines, nodes, absent}
 use Rattle.definitions.specs.Tree.{Tree, UsedNode, over}
 use Rattle.definitions.specs.Book.{word, treeOf, WellFormed}
-use Rattle.definitions.proofs.Options.{equal-or-not}
 use Rattle.definitions.proofs.Words.{present-word, no-owner, owner-range}
 use Rattle.definitions.proofs.Commands.{over-top, over-up}
 use Rattle.plantheory.specs.Search.{openedFor}
+use Rattle.book.proofs.Chosen.{zeros-at, chosen-more}
 use Rattle.stepping.proofs.Laws.{used-range}
+use Rattle.stepping.proofs.Upward.{own, top, held, used-holder}
 use Rattle.crossing.specs.Parts.{isOpen, Opens, OpenedFor, inOpened}
-use Rattle.crossing.proofs.Upward.{own, top, held, used-holder}
 
 -- ---- one machine more
 
 -- a list in which machine o is opened
 open-set : (words : List ℕ) (o m : ℕ) → o < length words → isOpen (set words o 1) m ≡ (eqb o m || isOpen words m)
 unfolding isOpen
-open-set words o m room =
-    ⊎-elim (λ (same : m ≡ o). rw (same, getD-set-same words o 1 0 room, eq-eqb o o refl))
-    (λ (other : m ≡ o → ⊥). rw (getD-set-other words o m 1 0 other, ne-eqb o m (λ e. other (sym e)))) (equal-or-not m o)
+open-set words o m room = chosen-more words o m room
 
 -- of three tests the first two may change places
 swapped : (a b c : Bool) → (a || (b || c)) ≡ ((b || a) || c)
@@ -96,14 +92,9 @@ module _ (book : List ℕ) (w : WellFormed book) {old new : List ℕ} {s n : ℕ
 -- ---- what the list says
 
 -- a list of zeros opens no machine
-pub zeros : (k m : ℕ) → _≡_ {A = ℕ} (getD (replicate k 0) m 0) 0
-zeros zero m = refl
-zeros (suc k) zero = refl
-zeros (suc k) (suc m) = zeros k m
-
 pub closed : (k m : ℕ) → isOpen (replicate k 0) m ≡ false
 unfolding isOpen
-closed k m = rw (zeros k m)
+closed k m = rw (zeros-at k m)
 
 -- after two walks from such a list the machines above a or b are opened
 pub opened-both : {t : Tree} {a b : ℕ} {none-open first both : List ℕ} → ((m : ℕ) → isOpen none-open m ≡ false) → Opens t a none-open first

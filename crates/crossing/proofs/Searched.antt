@@ -19,15 +19,16 @@ use Rattle.plantheory.specs.Search.{openedFor, planMove, Accounted, PlanSearche
 use Rattle.plantheory.proofs.Landing.{Opening, opening-for, opened-first, plan-parts, move-landed}
 use Rattle.plantheory.proofs.Bounds.{plan-move-cost}
 use Rattle.search.specs.Search.{Nearer, Certificate, Tables, Searched, moveOf}
+use Rattle.search.specs.Tables.{TableRoom, FoundRoom, Tabled}
 use Rattle.search.proofs.Reading.{move-some, move-row, row-words}
 use Rattle.search.proofs.Cut.{cut, cut-at, cut-start, cut-bounded}
 use Rattle.stepping.proofs.Laws.{used-range}
-use Rattle.crossing.specs.Crossing.{Crossable, CrossRoom, Crossed}
-use Rattle.crossing.specs.Parts.{inOpened, openMove, TableRoom, Tabled}
+use Rattle.crossing.specs.Crossing.{Crossable, Crossed}
+use Rattle.crossing.specs.Parts.{inOpened, openMove}
 use Rattle.crossing.proofs.Tabling.{in-used, used-in, open-move, shut-move}
 
 module _ {t : Tree} (sound : Sound t) (r : Rows) {opened : ℕ → Bool} (opening : Opening t opened) {target price : List ℕ}
-    (table : Tabled (openMove t r opened) target price) where
+    (table : Tabled (openMove t r opened) nodes target price) where
   -- a move of the tables is a move of the search from a node in an opened machine, and leads to one
   pub record TableMove (n x : ℕ) (b : Arrival) : Type 0 where
     pub range : x < commands
@@ -138,7 +139,7 @@ module _ {t : Tree} (sound : Sound t) (r : Rows) {opened : ℕ → Bool} (openin
 -- ---- the whole search
 
 module _ {book sheet : List ℕ} {a b : ℕ} (able : Crossable book sheet a b) {target price : List ℕ}
-    (table : Tabled (openMove (treeOf book) (rowsOf sheet) (openedFor (treeOf book) a b)) target price) where
+    (table : Tabled (openMove (treeOf book) (rowsOf sheet) (openedFor (treeOf book) a b)) nodes target price) where
   opening : Opening (treeOf book) (openedFor (treeOf book) a b)
   opening = opening-for (able .well-formed .sound) (able .from-used .1) (able .to-used .1)
 
@@ -149,7 +150,7 @@ module _ {book sheet : List ℕ} {a b : ℕ} (able : Crossable book sheet a b) {
       (used-range book (able .well-formed) a (able .from-used))
 
   -- and leaves what is to be found
-  pub cross-done : {dist before by dist′ before′ by′ : List ℕ} → CrossRoom dist′ before′ by′
+  pub cross-done : {dist before by dist′ before′ by′ : List ℕ} → FoundRoom dist′ before′ by′
       → Searched nodes a b target price dist before by dist′ before′ by′ → Crossed (treeOf book) (rowsOf sheet) a b dist′ before′ by′
   cross-done room done =
       record {

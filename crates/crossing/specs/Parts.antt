@@ -5,24 +5,23 @@ use mathlib.Core.Bool.{Bool, true, false, cond, _||_}
 use mathlib.Core.Option.{Option, none, some}
 use mathlib.Core.List.{List}
 use Prim.Native.Nat.{ℕ, _+_, _*_, _-_, _<_}
-use lib.Dec.{eqb}
 use lib.ListN.{length}
 use Rattle.definitions.specs.Basics.{_>>=_, option}
 use Rattle.definitions.specs.Limits.{machines, nodes, commands, blank}
 use Rattle.definitions.specs.Tree.{Tree, Transition, over}
-use Rattle.definitions.specs.Step.{Climb, found, passed, climb, Arrival}
-use Rattle.definitions.specs.Book.{number, transitionOf}
+use Rattle.definitions.specs.Step.{leaving, Climb, found, passed, past, climb, Arrival}
+use Rattle.definitions.specs.Book.{transitionOf}
 use Rattle.definitions.specs.Sheet.{Rows}
 use Rattle.definitions.specs.Truth.{nodeExit}
+use Rattle.book.specs.Chosen.{chosen}
 use Rattle.plantheory.specs.Search.{openedFor, land, planMove}
-use Rattle.search.specs.Search.{rowMove}
 use Rattle.search.specs.Parts.{at}
 
 -- ---- the opened machines
 
 -- whether a list of words, one for each machine, says that machine m is opened: its word is 1
 unfoldable pub isOpen : List ℕ → ℕ → Bool
-isOpen words m = eqb (at words m) 1
+isOpen words m = chosen words m
 
 -- the machine of node s and all above it are opened, and the others are as they were
 pub record Opens (t : Tree) (s : ℕ) (old new : List ℕ) : Type 0 where
@@ -72,9 +71,10 @@ landed lands (passed c) = none
 unfoldable pub finds : Tree → List ℕ → ℕ → ℕ → Option Transition
 finds t lands n x = landed lands (climb t (t .root) n x)
 
--- what a node of machine m that has no transition for x takes over: what x finds from the node that holds m, and for the root nothing
+-- what a node of machine m that has no transition for x takes over: what x finds from the node that holds m, after m was left, and for the
+-- root nothing
 unfoldable pub inherits : Tree → List ℕ → ℕ → ℕ → Option Transition
-inherits t lands m x = t .holder m >>= λ h. finds t lands h x
+inherits t lands m x = t .holder m >>= λ h. landed lands (past (leaving t m) (climb t (t .root) h x))
 
 -- the list has a word for every machine and command
 abbrev pub UpRoom : List ℕ → Type 0
@@ -122,10 +122,6 @@ leaves exit way = exit >>= λ e. way >>= λ a. some (record { node = a .target; 
 unfoldable pub landMove : Tree → Rows → List ℕ → ℕ → ℕ → Option Arrival
 landMove t r lands n x = leaves (nodeExit t r n x) (finds t lands n x)
 
--- the move that two words of the tables say
-abbrev pub entryMove : ℕ → ℕ → Option Arrival
-entryMove v c = number v >>= λ w. some (record { node = w; cost = c })
-
 -- a transition's word whose target, if it says one, is a node
 abbrev pub InNodes : ℕ → Type 0
 InNodes w = (a : Transition) → transitionOf w ≡ some a → a .target < nodes
@@ -133,26 +129,3 @@ InNodes w = (a : Transition) → transitionOf w ≡ some a → a .target < nodes
 -- the moves that the tables hold: those of the nodes in opened machines
 unfoldable pub openMove : Tree → Rows → (ℕ → Bool) → ℕ → ℕ → Option Arrival
 openMove t r opened n x = cond (inOpened t opened n) (planMove t r opened n x) none
-
--- the tables have room for every node's moves
-pub record TableRoom (target price : List ℕ) : Type 0 where
-  pub target-room : length target ≡ commands * nodes
-  pub price-room : length price ≡ commands * nodes
-
--- the row of node n has no move
-abbrev pub BlankRow : ℕ → List ℕ → List ℕ → Type 0
-BlankRow n target price = (x : ℕ) → x < commands → rowMove target price n x ≡ none
-
--- the entry of node n for x has the move o, and the other entries are as they were
-pub record EntryFilled (o : Option Arrival) (n x : ℕ) (target price target′ price′ : List ℕ) : Type 0 where
-  pub here : rowMove target′ price′ n x ≡ o
-  pub others : (u y : ℕ) → y < commands → (u ≡ n → y ≡ x → ⊥) → rowMove target′ price′ u y ≡ rowMove target price u y
-
--- the row of node n has these moves, and the other rows are as they were
-pub record RowFilled (move : ℕ → Option Arrival) (n : ℕ) (target price target′ price′ : List ℕ) : Type 0 where
-  pub here : (x : ℕ) → x < commands → rowMove target′ price′ n x ≡ move x
-  pub others : (u x : ℕ) → x < commands → (u ≡ n → ⊥) → rowMove target′ price′ u x ≡ rowMove target price u x
-
--- the tables hold the moves of every node
-pub record Tabled (move : ℕ → ℕ → Option Arrival) (target price : List ℕ) : Type 0 where
-  pub moves : (n x : ℕ) → n < nodes → x < commands → rowMove target price n x ≡ move n x

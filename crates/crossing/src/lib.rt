@@ -11,25 +11,20 @@ ghost use Rattle.definitions.specs.Tree.{UsedNode};
 ghost use Rattle.definitions.specs.Book.{treeOf, transitionOf, WellFormed};
 ghost use Rattle.definitions.specs.Sheet.{rowsOf};
 ghost use Rattle.plantheory.specs.Search.{openedFor, land};
-ghost use Rattle.truesheet.specs.Meaning.{exitOf, exitLimit, Exits};
-ghost use Rattle.truesheet.specs.Fits.{Holding};
-ghost use Rattle.crossing.specs.Crossing.{Crossable, CrossRoom, Crossed};
+ghost use Rattle.search.specs.Search.{entryMove};
+ghost use Rattle.search.specs.Tables.{TableRoom, FoundRoom, BlankRow, EntryFilled, RowFilled, Tabled};
+ghost use Rattle.sheet.specs.Exits.{Readable, exitOf, Exits};
+ghost use Rattle.crossing.specs.Crossing.{Crossable, Crossed};
 ghost use Rattle.crossing.specs.Parts.{isOpen, Opens, inOpened, OpenedFor, NodeList, Itself, LandedAbove, Landings};
 ghost use Rattle.crossing.specs.Parts.{finds, leaves, landMove, UpRoom, OwnerRow, MachineRow, RootRow, HandedTo, HandedAbove, Prepared};
-ghost use Rattle.crossing.specs.Parts.{entryMove, InNodes, openMove, TableRoom, BlankRow, EntryFilled, RowFilled, Tabled};
-use truesheet::OwnExit;
+ghost use Rattle.crossing.specs.Parts.{InNodes, openMove};
+use sheet::OwnExit;
+use sheet::wide;
 
 // A move: the node where it leads, ABSENT where there is none, and what it costs.
 struct Move {
     target: u32,
     price: u64,
-}
-
-// The number in 64 bits.
-fn wide(x: u32) -> u64
-    ensures { λ r. ⌜ (r ≡ x) × (r < exitLimit) ⌝ }
-{
-    x as u64
 }
 
 // Opens the machine of node s and all above it: their words become 1, the others stay.
@@ -132,7 +127,7 @@ fn find(book: &[u32], lands: &[u32], up: &[u32], m: u32, n: u32, x: u32) -> u32
         × MachineRow (treeOf (now book)) (now lands) (now up) m ⌝ }
     ensures { λ r. ⌜ transitionOf r ≡ finds (treeOf (now (book .entry))) (now (lands .entry)) n x ⌝ }
 {
-    let w = book::transition(book, n, x);
+    let w = book::counting(book, n, x);
     let own = lands[(w / 65536 % 256) as usize] * 65536 + w % 65536;
     let inherited = book::BLANK - up[(book::COMMANDS * m + x) as usize];
     unless_none(w, own, inherited)
@@ -200,13 +195,13 @@ fn entry(
     target: &mut [u32],
     price: &mut [u64],
 )
-    requires { ⌜ Holding (now book) (now sheet) × NodeList (now lands) × UpRoom (now up) × (treeOf (now book) .owner n ≡ some m) × (x < commands)
+    requires { ⌜ Readable (now book) (now sheet) × NodeList (now lands) × UpRoom (now up) × (treeOf (now book) .owner n ≡ some m) × (x < commands)
         × MachineRow (treeOf (now book)) (now lands) (now up) m × TableRoom (now target) (now price) ⌝ }
     ensures { λ _. ⌜ EntryFilled (landMove (treeOf (now (book .entry))) (rowsOf (now (sheet .entry))) (now (lands .entry)) n x) n x
         (now (target .entry)) (now (price .entry)) (now (target .exit)) (now (price .exit)) ⌝ }
 {
     let w = find(book, lands, up, m, n, x);
-    let found = priced(truesheet::own_exit(book, sheet, n, x), w);
+    let found = priced(sheet::own_exit(book, sheet, n, x), w);
     let i = (book::COMMANDS * n + x) as usize;
     target[i] = found.target;
     price[i] = found.price;
@@ -222,7 +217,7 @@ fn row(
     target: &mut [u32],
     price: &mut [u64],
 )
-    requires { ⌜ Holding (now book) (now sheet) × NodeList (now lands) × UpRoom (now up) × UsedNode (treeOf (now book)) n
+    requires { ⌜ Readable (now book) (now sheet) × NodeList (now lands) × UpRoom (now up) × UsedNode (treeOf (now book)) n
         × OwnerRow (treeOf (now book)) (now lands) (now up) n × TableRoom (now target) (now price) ⌝ }
     ensures { λ _. ⌜ RowFilled (landMove (treeOf (now (book .entry))) (rowsOf (now (sheet .entry))) (now (lands .entry)) n) n
         (now (target .entry)) (now (price .entry)) (now (target .exit)) (now (price .exit)) ⌝ }
@@ -246,7 +241,7 @@ fn row_if_opened(
     target: &mut [u32],
     price: &mut [u64],
 )
-    requires { ⌜ Holding (now book) (now sheet) × (length (now opened) ≡ machines)
+    requires { ⌜ Readable (now book) (now sheet) × (length (now opened) ≡ machines)
         × Prepared (treeOf (now book)) (isOpen (now opened)) (now lands) (now up) × (n < nodes)
         × TableRoom (now target) (now price) × BlankRow n (now target) (now price) ⌝ }
     ensures { λ _. ⌜ RowFilled (openMove (treeOf (now (book .entry))) (rowsOf (now (sheet .entry))) (isOpen (now (opened .entry))) n) n
@@ -268,10 +263,10 @@ fn rows(
     target: &mut [u32],
     price: &mut [u64],
 )
-    requires { ⌜ Holding (now book) (now sheet) × (length (now opened) ≡ machines)
+    requires { ⌜ Readable (now book) (now sheet) × (length (now opened) ≡ machines)
         × Prepared (treeOf (now book)) (isOpen (now opened)) (now lands) (now up)
         × TableRoom (now target) (now price) × ((n : ℕ) → n < nodes → BlankRow n (now target) (now price)) ⌝ }
-    ensures { λ _. ⌜ Tabled (openMove (treeOf (now (book .entry))) (rowsOf (now (sheet .entry))) (isOpen (now (opened .entry))))
+    ensures { λ _. ⌜ Tabled (openMove (treeOf (now (book .entry))) (rowsOf (now (sheet .entry))) (isOpen (now (opened .entry)))) nodes
         (now (target .exit)) (now (price .exit)) ⌝ }
 {
     let mut n = 0u32;
@@ -283,9 +278,9 @@ fn rows(
 
 // Fills the tables, which have no move yet, with the moves of the nodes in the machines above a and b.
 fn tables(book: &[u32], sheet: &[u32], a: u32, b: u32, target: &mut [u32], price: &mut [u64])
-    requires { ⌜ Holding (now book) (now sheet) × UsedNode (treeOf (now book)) a × UsedNode (treeOf (now book)) b
+    requires { ⌜ Readable (now book) (now sheet) × UsedNode (treeOf (now book)) a × UsedNode (treeOf (now book)) b
         × TableRoom (now target) (now price) × ((n : ℕ) → n < nodes → BlankRow n (now target) (now price)) ⌝ }
-    ensures { λ _. ⌜ Tabled (openMove (treeOf (now (book .entry))) (rowsOf (now (sheet .entry))) (openedFor (treeOf (now (book .entry))) a b))
+    ensures { λ _. ⌜ Tabled (openMove (treeOf (now (book .entry))) (rowsOf (now (sheet .entry))) (openedFor (treeOf (now (book .entry))) a b)) nodes
         (now (target .exit)) (now (price .exit)) ⌝ }
 {
     let mut opened = [0u32; 64];
@@ -310,7 +305,7 @@ pub fn cross(
     before: &mut [u32],
     by: &mut [u32],
 )
-    requires { ⌜ Crossable (now book) (now sheet) a b × CrossRoom (now dist) (now before) (now by) ⌝ }
+    requires { ⌜ Crossable (now book) (now sheet) a b × FoundRoom (now dist) (now before) (now by) ⌝ }
     ensures { λ _. ⌜ Crossed (treeOf (now (book .entry))) (rowsOf (now (sheet .entry))) a b
         (now (dist .exit)) (now (before .exit)) (now (by .exit)) ⌝ }
 {

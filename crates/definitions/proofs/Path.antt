@@ -193,14 +193,17 @@ enters-state s (down {b = b} {f = f} bel st en) own = enters-state s en (s .star
 
 -- ---- the climb
 
--- a transition that counts is for a command, and stays in the machine of its node
-pub counting-range : {t : Tree} → Sound t → (n x : ℕ) (a : Transition) → counting t n x ≡ some a → x < commands
+-- a transition that counts is one of its node's
+pub counting-is : (t : Tree) (n x : ℕ) (a : Transition) → counting t n x ≡ some a → t .transition n x ≡ some a
 unfolding counting
-counting-range s n x a e = s .transition-range n x a e .0
+counting-is t n x a e = e
+
+-- so it is for a command, and stays in the machine of its node
+pub counting-range : {t : Tree} → Sound t → (n x : ℕ) (a : Transition) → counting t n x ≡ some a → x < commands
+counting-range {t} s n x a e = s .transition-range n x a (counting-is t n x a e) .0
 
 pub counting-owned : {t : Tree} → Sound t → (n x : ℕ) (a : Transition) {m : ℕ} → counting t n x ≡ some a → t .owner n ≡ some m → t .owner (a .target) ≡ some m
-unfolding counting
-counting-owned s n x a e own = let (p, ep, et) = s .transition-owned n x a e in cc
+counting-owned {t} s n x a e own = let (p, ep, et) = s .transition-owned n x a (counting-is t n x a e) in cc
 
 -- node n belongs to machine top or to a machine below it
 pub data Inside (t : Tree) (top : ℕ) : ℕ → Type 0 where
@@ -223,6 +226,11 @@ pub climb-on : {t : Tree} → Sound t → (top x : ℕ) {n m h : ℕ} → t .own
 unfolding climb look
 climb-on {t} s top x {n} {m} {h} o other eh e = rw (path-on s o eh, e, isAt-other m top o other, o)
 
+-- leaving a machine costs nothing
+pub leaving-free : (t : Tree) (m : ℕ) → leaving t m ≡ 0
+unfolding leaving
+leaving-free t m = refl
+
 -- nothing is found where the climb has passed
 pub passed-found : {k : Climb} {l u v c : ℕ} → k ≡ passed l → k ≡ found u v c → ⊥
 passed-found p q = let z : _≡_ {A = ℕ} 0 1 = cc in omega arith
@@ -240,10 +248,9 @@ pub record Found (t : Tree) (x u v : ℕ) : Type 0 where
   pub target-owner : t .owner v ≡ some machine
 
 found-own : {t : Tree} → Sound t → (x w : ℕ) (a : Transition) → counting t w x ≡ some a → Found t x w (a .target)
-unfolding counting
-found-own s x w a has =
-    let (m, ew, ev) = s .transition-owned w x a has in
-    record { range = s .transition-range w x a has .0; machine = m; node-owner = ew; target-owner = ev }
+found-own {t} s x w a has =
+    let (m, ew, ev) = s .transition-owned w x a (counting-is t w x a has) in
+    record { range = counting-range s w x a has; machine = m; node-owner = ew; target-owner = ev }
 
 look-first : {t : Tree} → Sound t → (x w : ℕ) (o : Option Transition) → counting t w x ≡ o → (k : Climb) {u v c : ℕ} → firstOf w o k ≡ found u v c
     → (Found t x u v) ⊎ (k ≡ found u v c)

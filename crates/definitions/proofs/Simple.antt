@@ -17,7 +17,7 @@ use Rattle.definitions.specs.Tree.{Tree, Transition, Sound, isState, sta
 use Rattle.definitions.specs.Step.{enter, startState, counting, leaving, leavingOf, Climb, found, passed, past, firstOf, look, climb, Arrival, follow, stepIn, step, runIn, Moves, passes}
 use Rattle.definitions.specs.Costs.{LeastCost, ExitCost}
 use Rattle.definitions.proofs.Options.{bind-some, none-some, some-same, true-false, and-true, equal-or-not, isAt-some, isSome-true}
-use Rattle.definitions.proofs.Path.{Deep, at-root, under, root-holder, deep, path-on, enter-enters, enters-state, Inside, own, deeper}
+use Rattle.definitions.proofs.Path.{Deep, at-root, under, root-holder, deep, path-on, enter-enters, enters-state, counting-is, leaving-free, Inside, own, deeper}
 use Rattle.definitions.proofs.Runs.{onto, run-first, run-cons, run-nil}
 use Rattle.definitions.proofs.Exits.{ExitParts, exit-parts, parts-exit}
 use Rattle.definitions.proofs.Inside.{inside-owner, enters-inside, found-inside}
@@ -162,17 +162,15 @@ distinct-count k p (n ∷ ns) d all =
 
 -- a transition that counts costs at most 65,535
 pub counting-cost : {t : Tree} → Sound t → (n x : ℕ) (a : Transition) → counting t n x ≡ some a → a .cost ≤ largestCost
-unfolding counting
-counting-cost s n x a e = omega (arith, s .transition-range n x a e .1)
+counting-cost {t} s n x a e = omega (arith, s .transition-range n x a (counting-is t n x a e) .1)
 
 -- leaving a node's machine costs nothing
-leaving-free : (t : Tree) (n : ℕ) → leavingOf t n ≡ 0
-unfolding leaving
-leaving-free t n = go (t .owner n)
+leaving-of : (t : Tree) (n : ℕ) → leavingOf t n ≡ 0
+leaving-of t n = go (t .owner n)
   where
     go : (o : Option ℕ) → option 0 (leaving t) o ≡ 0
     go none = refl
-    go (some m) = refl
+    go (some m) = leaving-free t m
 
 -- what is found costs at most 65,535, and where nothing is found leaving machines cost nothing
 abbrev pub Cheap : Climb → Type 0
@@ -196,7 +194,7 @@ unfolding look
 look-cheap s top x [] = refl
 look-cheap {t} s top x (n ∷ ns) =
     cheap-first s n x (counting t n x) refl _
-    (cheap-further (isAt (t .owner n) top) _ (cheap-past (leavingOf t n) (leaving-free t n) (look t top x ns) (look-cheap s top x ns)))
+    (cheap-further (isAt (t .owner n) top) _ (cheap-past (leavingOf t n) (leaving-of t n) (look t top x ns) (look-cheap s top x ns)))
 
 -- so it is of every climb
 pub climb-cheap : {t : Tree} → Sound t → (top n x : ℕ) → Cheap (climb t top n x)

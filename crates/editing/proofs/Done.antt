@@ -21,7 +21,7 @@ use Rattle.sheet.specs.Fields.{Leaves, withMark}
 use Rattle.sheet.proofs.Stores.{leaves-then}
 use Rattle.stepping.proofs.Laws.{owner-told}
 use Rattle.marking.specs.Stale.{LeavesStaleOver}
-use Rattle.marking.proofs.Blanks.{leaves-same}
+use Rattle.sheet.proofs.Stores.{leaves-same}
 use Rattle.editing.specs.Edited.{Ready, Edited}
 use Rattle.editing.proofs.Left.{holds-same, left-edited}
 use Rattle.editing.proofs.Rows.{add-rows, refine-rows, arrow-rows, clear-rows, start-rows, crown-rows}

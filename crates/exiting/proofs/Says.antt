@@ -17,8 +17,7 @@ use Rattle.definitions.specs.Calls.{RightLengths, exitRefusals, ExitSays}
 use Rattle.definitions.proofs.Words.{present-word, no-start}
 use Rattle.sheet.specs.Fields.{Mark}
 use Rattle.definitions.proofs.Answers.{lent-length, lent-torn, lent-untrue, lent-past}
-use Rattle.truesheet.proofs.Reading.{rowsOf-read, cost-said, cost-unsaid}
-use Rattle.truesheet.proofs.Machines.{is-stale, is-filled}
+use Rattle.sheet.proofs.Reading.{rowsOf-read, is-stale, is-filled, cost-said, cost-unsaid}
 
 module _ (book sheet : List ℕ) (m x : ℕ) where
   -- what a refusal says, and what is said where none holds

@@ -7,8 +7,8 @@ use lib.ListN.{length, getD, take, drop}
 use lib.Seq.{take-at, drop-at, getD-take, length-take-le}
 use Rattle.definitions.specs.Limits.{planBuffer}
 use Rattle.definitions.specs.Session.{decimal, spaced, planLine, noLine, stopLine}
-use Rattle.writing.specs.Meaning.{Stored}
-use Rattle.writing.proofs.Laws.{stored-then, stored-none, stored-is, stored-front}
+use Rattle.storing.specs.Stored.{Stored}
+use Rattle.storing.proofs.Laws.{stored-then, stored-none, stored-is, stored-front}
 use Rattle.lines.specs.Meaning.{longestLine, numbers, Written}
 use Rattle.lines.proofs.Digits.{decimal-short, decimal-byte, decimal-length, spaced-first, spaced-numbers, numbers-next, numbers-none, numbers-short}
 

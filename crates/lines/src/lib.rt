@@ -9,7 +9,7 @@ ghost use Rattle.definitions.specs.Book.{treeOf, WellFormed};
 ghost use Rattle.definitions.specs.Truth.{TrueSheet};
 ghost use Rattle.definitions.specs.Stream.{byteAt};
 ghost use Rattle.definitions.specs.Session.{decimal, planLine, noLine, stopLine};
-ghost use Rattle.writing.specs.Meaning.{Stored};
+ghost use Rattle.storing.specs.Stored.{Stored};
 ghost use Rattle.lines.specs.Meaning.{longestLine, numbers, Written, PlanWritten};
 ghost use Rattle.lines.specs.Meaning.{Halted, Stopped, Answered, TurnSays};
 use loading::Turn as Taking;
@@ -48,10 +48,10 @@ fn put_decimal(list: &mut [u8], at: usize, n: u64) -> usize
     ensures { λ r. ⌜ Stored (now (list .entry)) at (decimal n) r (now (list .exit)) ⌝ }
 {
     if n < 10 {
-        return writing::put_byte(list, at, 48 + (n as u32));
+        return storing::put_byte(list, at, 48 + (n as u32));
     }
     let last = put_decimal(list, at, n / 10);
-    writing::put_byte(list, last, 48 + (n % 10) as u32)
+    storing::put_byte(list, last, 48 + (n % 10) as u32)
 }
 
 // The same after a space.
@@ -59,7 +59,7 @@ fn put_number(list: &mut [u8], at: usize, n: u64) -> usize
     requires { ⌜ at + 21 < 2 ^ 64 ⌝ }
     ensures { λ r. ⌜ Stored (now (list .entry)) at (32 ∷ decimal n) r (now (list .exit)) ⌝ }
 {
-    let first = writing::put_byte(list, at, 32);
+    let first = storing::put_byte(list, at, 32);
     put_decimal(list, first, n)
 }
 
@@ -85,7 +85,7 @@ fn put_plan(list: &mut [u8], cost: u32, commands: &[u8], count: usize) -> usize
     let counted = put_decimal(list, 0, cost as u64);
     let listed = put_number(list, counted, count as u64);
     let last = put_numbers(list, listed, commands, count);
-    writing::put_byte(list, last, 10)
+    storing::put_byte(list, last, 10)
 }
 
 // Writes the line of a plan that is refused; its length.
@@ -93,20 +93,20 @@ fn put_no(list: &mut [u8], number: u32) -> usize
     requires { ⌜ longestLine ≤ length (now list) ⌝ }
     ensures { λ r. ⌜ Written (now (list .entry)) (noLine number) r (now (list .exit)) ⌝ }
 {
-    let second = writing::put_byte(list, 0, 110);
-    let refusal = writing::put_byte(list, second, 111);
+    let second = storing::put_byte(list, 0, 110);
+    let refusal = storing::put_byte(list, second, 111);
     let last = put_number(list, refusal, number as u64);
-    writing::put_byte(list, last, 10)
+    storing::put_byte(list, last, 10)
 }
 
 // Writes the word `stop`; the next place.
 fn put_stop_word(list: &mut [u8]) -> usize
     ensures { λ r. ⌜ Stored (now (list .entry)) 0 (115 ∷ 116 ∷ 111 ∷ 112 ∷ []) r (now (list .exit)) ⌝ }
 {
-    let second = writing::put_byte(list, 0, 115);
-    let third = writing::put_byte(list, second, 116);
-    let fourth = writing::put_byte(list, third, 111);
-    writing::put_byte(list, fourth, 112)
+    let second = storing::put_byte(list, 0, 115);
+    let third = storing::put_byte(list, second, 116);
+    let fourth = storing::put_byte(list, third, 111);
+    storing::put_byte(list, fourth, 112)
 }
 
 // Writes the line of a refused command whose opcode byte stands at an offset; its length.
@@ -117,7 +117,7 @@ fn put_stop(list: &mut [u8], number: u32, at: usize) -> usize
     let refusal = put_stop_word(list);
     let offset = put_number(list, refusal, number as u64);
     let last = put_number(list, offset, at as u64);
-    writing::put_byte(list, last, 10)
+    storing::put_byte(list, last, 10)
 }
 
 // Asks for a plan from a to b and writes its line; the line's length.

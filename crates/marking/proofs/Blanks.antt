@@ -1,6 +1,6 @@
 -- Nodes made blank one after the other: the rows after each turn of the loop. Assumes nothing.
 use mathlib.Core.Path.{_≡_, refl, ap, _∙_, fun-ext}
-use mathlib.Core.Bool.{Bool, true, false, cond, _&&_, _||_, and-true}
+use mathlib.Core.Bool.{Bool, true, false, cond, _&&_, and-true}
 use mathlib.Core.Option.{Option, none, some}
 use mathlib.Core.List.{List}
 use Prim.Native.Nat.{ℕ, _+_, _<_}
@@ -9,21 +9,14 @@ use lib.ListN.{length}
 use Rattle.definitions.specs.Basics.{option}
 use Rattle.definitions.specs.Limits.{machines, nodes, sheetLength, absent}
 use Rattle.definitions.specs.Book.{word, number, under, nodeWord, treeOf, WellFormed}
-use Rattle.definitions.specs.Sheet.{Rows, rowsOf}
-use Rattle.definitions.proofs.Words.{same-rows, present-word, no-owner, owner-range}
+use Rattle.definitions.specs.Sheet.{rowsOf}
+use Rattle.definitions.proofs.Words.{present-word, no-owner, owner-range}
 use Rattle.sheet.specs.Fields.{Leaves, withBlankNode}
-use Rattle.sheet.proofs.Stores.{leaves-then}
-use Rattle.marking.specs.Chosen.{chosen, only, upTo}
-use Rattle.marking.specs.Stale.{withBlankNodes, ownedBy, LeavesBlank}
-use Rattle.marking.proofs.Chosen.{none-up, none-only, one-only, up-more, unless-both}
-
--- a sheet that was left as it is
-pub untouched : (ws : List ℕ) → length ws ≡ sheetLength → Leaves ws ws (rowsOf ws)
-untouched ws l = record { length = l; marks = λ marks. marks; rows = refl }
-
--- left with rows r, which are rows q
-pub leaves-same : {a b : List ℕ} {r q : Rows} → Leaves a b r → r ≡ q → Leaves a b q
-leaves-same left e = record { length = left .length; marks = left .marks; rows = left .rows ∙ e }
+use Rattle.sheet.proofs.Stores.{leaves-then, leaves-same, untouched, blank-both}
+use Rattle.book.specs.Chosen.{chosen, only, upTo}
+use Rattle.sheet.specs.Fields.{withBlankNodes}
+use Rattle.marking.specs.Stale.{ownedBy, LeavesBlank}
+use Rattle.book.proofs.Chosen.{none-up, none-only, one-only, up-more}
 
 -- ---- one node
 
@@ -59,13 +52,6 @@ module _ (book : List ℕ) (w : WellFormed book) (list : List ℕ) (n : ℕ) {o 
         (ap (withBlankNodes (rowsOf a)) (one-only (ownedBy (treeOf book) (chosen list)) n (ap (option false (chosen list)) own ∙ on)))
 
 -- ---- the loop over the nodes
-
--- blank by one test and then by another
-pub blank-both : (r : Rows) (a b : ℕ → Bool) → withBlankNodes (withBlankNodes r a) b ≡ withBlankNodes r (λ k. a k || b k)
-blank-both r a b =
-    same-rows _ _ (λ m. refl) (λ m x. refl) (λ m x. refl) (λ n. unless-both (a n) (b n) (r .cost n))
-    (λ n. unless-both (a n) (b n) (r .before n))
-    (λ n. unless-both (a n) (b n) (r .by n))
 
 module _ (g : ℕ → Bool) where
   -- at first, and after one node more

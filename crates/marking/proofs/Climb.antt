@@ -27,10 +27,11 @@ use Rattle.rows.proofs.Edits.{over-own}
 use Rattle.sheet.specs.Fields.{Mark, Leaves, withMark, withBlankMachine}
 use Rattle.sheet.proofs.Stores.{leaves-then}
 use Rattle.stepping.proofs.Laws.{owner-told}
-use Rattle.marking.specs.Chosen.{chosen}
-use Rattle.marking.specs.Stale.{withMarked, withBlankNodes, ownedBy, freshOver, LeavesBlank, MarkedOver, LeavesStaleOver}
-use Rattle.marking.proofs.Chosen.{zeros, chosen-more}
-use Rattle.marking.proofs.Blanks.{untouched, leaves-same}
+use Rattle.book.specs.Chosen.{chosen}
+use Rattle.sheet.specs.Fields.{withBlankNodes}
+use Rattle.marking.specs.Stale.{withMarked, ownedBy, freshOver, LeavesBlank, MarkedOver, LeavesStaleOver}
+use Rattle.book.proofs.Chosen.{zeros, chosen-more}
+use Rattle.sheet.proofs.Stores.{untouched, leaves-same}
 
 -- ---- rows where nothing is left to mark
 

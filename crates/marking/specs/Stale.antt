@@ -8,8 +8,8 @@ use Rattle.definitions.specs.Basics.{option, unless}
 use Rattle.definitions.specs.Tree.{Tree, over}
 use Rattle.definitions.specs.Sheet.{Rows, rowsOf}
 use Rattle.definitions.specs.Edit.{withStale}
-use Rattle.sheet.specs.Fields.{Leaves}
-use Rattle.marking.specs.Chosen.{chosen}
+use Rattle.book.specs.Chosen.{chosen}
+use Rattle.sheet.specs.Fields.{Leaves, withBlankNodes}
 
 -- the rows where the machines that pass the test are stale and their own rows blank
 abbrev pub withMarked : Rows → (ℕ → Bool) → Rows
@@ -21,18 +21,6 @@ withMarked r test =
       cost = r .cost;
       before = r .before;
       by = r .by;
-    }
-
--- the rows where the nodes that pass the test are blank
-abbrev pub withBlankNodes : Rows → (ℕ → Bool) → Rows
-withBlankNodes r gone =
-    record {
-      stale = r .stale;
-      exit = r .exit;
-      last = r .last;
-      cost = λ n. unless (gone n) (r .cost n);
-      before = λ n. unless (gone n) (r .before n);
-      by = λ n. unless (gone n) (r .by n);
     }
 
 -- whether node k belongs to a machine that passes the test

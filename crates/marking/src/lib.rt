@@ -11,7 +11,7 @@ ghost use Rattle.definitions.specs.Book.{treeOf, WellFormed};
 ghost use Rattle.definitions.specs.Sheet.{rowsOf};
 ghost use Rattle.definitions.specs.Truth.{TrueSheet};
 ghost use Rattle.sheet.specs.Fields.{Leaves, withMark, withBlankMachine};
-ghost use Rattle.marking.specs.Chosen.{chosen, only};
+ghost use Rattle.book.specs.Chosen.{chosen, only};
 ghost use Rattle.marking.specs.Stale.{ownedBy, LeavesBlank, MarkedOver, LeavesStaleOver};
 
 // Marks machine m and makes its own row blank.

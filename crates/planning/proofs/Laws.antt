@@ -23,7 +23,7 @@ use Rattle.plantheory.specs.Search.{openedFor}
 use Rattle.plantheory.proofs.Landing.{opening-for, opened-first, plain-position}
 use Rattle.plantheory.proofs.Planned.{Planned, plan-good, plan-bounds}
 use Rattle.search.specs.Search.{unreached, reached, distanceOf, nameOf}
-use Rattle.truesheet.proofs.Reading.{rowsOf-read}
+use Rattle.sheet.proofs.Reading.{rowsOf-read}
 use Rattle.crossing.specs.Crossing.{Crossed}
 use Rattle.expanding.specs.Names.{Traceable}
 use Rattle.expanding.specs.Expanding.{planOf}

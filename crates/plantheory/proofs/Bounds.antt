@@ -6,12 +6,13 @@ use Prim.Native.Nat.{ℕ, _+_, _≤_, _<_}
 use native.Mathlib.Omega.{arith}
 use Rattle.definitions.specs.Limits.{commands, largestCost, largestPlanCost}
 use Rattle.definitions.specs.Tree.{Tree, Sound}
-use Rattle.definitions.specs.Step.{leaving, Arrival}
+use Rattle.definitions.specs.Step.{Arrival}
 use Rattle.definitions.specs.Costs.{ExitCost}
 use Rattle.definitions.specs.Sheet.{Rows}
 use Rattle.definitions.specs.Truth.{nodeExit, TrueRows}
 use Rattle.definitions.proofs.Options.{some-same}
 use Rattle.definitions.proofs.Local.{exit-plain, refined-exit}
+use Rattle.definitions.proofs.Path.{leaving-free}
 use Rattle.definitions.proofs.Simple.{Cheap, climb-cheap, exit-largest}
 use Rattle.plantheory.specs.Search.{planMove}
 use Rattle.plantheory.proofs.Landing.{plan-parts, plan-range}
@@ -25,14 +26,13 @@ module _ {t : Tree} (s : Sound t) (r : Rows) (rows : TrueRows t r) (fresh : (m :
 
   -- and so is a node's own
   pub node-exit-cost : (n x c : ℕ) → x < commands → nodeExit t r n x ≡ some c → c ≤ largestPlanCost
-  unfolding leaving
   node-exit-cost n x c range e = go (t .below n) refl
     where
       go : (o : Option ℕ) → t .below n ≡ o → c ≤ largestPlanCost
       go none bel = omega (arith, some-same (exit-plain t r n x bel) e)
       go (some b) bel =
           let (d, exit, same) = refined-exit t r n x bel e in
-          omega (arith, row-exit-cost x d bel range exit)
+          omega (arith, row-exit-cost x d bel range exit, leaving-free t b)
 
   -- a move of the search costs at most 16,776,960
   pub plan-move-cost : (opened : ℕ → Bool) (q x : ℕ) {b : Arrival} → planMove t r opened q x ≡ some b → b .cost ≤ largestPlanCost + largestCost

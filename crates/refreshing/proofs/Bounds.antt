@@ -6,12 +6,12 @@ use Prim.Native.Nat.{ℕ, suc, _+_, _≤_, _<_}
 use native.Mathlib.Omega.{arith}
 use Rattle.definitions.specs.Limits.{commands, largestCost, largestPlanCost}
 use Rattle.definitions.specs.Tree.{Tree, Sound}
-use Rattle.definitions.specs.Step.{leaving, Arrival}
+use Rattle.definitions.specs.Step.{Arrival}
 use Rattle.definitions.specs.Costs.{ExitCost}
 use Rattle.definitions.specs.Sheet.{Rows}
 use Rattle.definitions.specs.Truth.{nodeExit, move, TrueRows}
 use Rattle.definitions.proofs.Options.{some-same}
-use Rattle.definitions.proofs.Path.{counting-range, Deep, deep, deep-below, deep-unique}
+use Rattle.definitions.proofs.Path.{counting-range, leaving-free, Deep, deep, deep-below, deep-unique}
 use Rattle.definitions.proofs.Local.{exit-plain, refined-exit, move-parts}
 use Rattle.definitions.proofs.Simple.{counting-cost, exit-largest}
 
@@ -25,7 +25,6 @@ below-other {t} s {n} {m} {b} own bel same =
 module _ {t : Tree} (s : Sound t) (r : Rows) (rows : TrueRows t r) (n : ℕ) (fresh : (b : ℕ) → t .below n ≡ some b → r .stale b ≡ false) where
   -- a node's own exit cost is at most 16,711,425
   pub own-exit-bound : (x e : ℕ) → x < commands → nodeExit t r n x ≡ some e → e ≤ largestPlanCost
-  unfolding leaving
   own-exit-bound x e range exits = go (t .below n) refl
     where
       go : (o : Option ℕ) → t .below n ≡ o → e ≤ largestPlanCost
@@ -33,7 +32,7 @@ module _ {t : Tree} (s : Sound t) (r : Rows) (rows : TrueRows t r) (n : ℕ) (fr
       go (some b) bel =
           let (d, exit, same) = refined-exit t r n x bel exits in
           let (f, used) = s .held-used b n (s .below-held n b bel) in
-          omega (arith, exit-largest s b x d (subst (ExitCost t b x) exit (rows .filled b f used (fresh b bel) .exit x range)))
+          omega (arith, leaving-free t b, exit-largest s b x d (subst (ExitCost t b x) exit (rows .filled b f used (fresh b bel) .exit x range)))
 
   -- a move costs at most 16,776,960
   pub move-bound : (x : ℕ) {b : Arrival} → move t r n x ≡ some b → b .cost ≤ largestPlanCost + largestCost

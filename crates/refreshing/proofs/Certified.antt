@@ -1,16 +1,12 @@
 -- A search over the nodes of one machine, at their places, fills its row. Assumes nothing.
 use mathlib.Core.Path.{_≡_, refl, sym, _∙_, ap}
-use mathlib.Core.Bool.{Bool, true, false}
 use mathlib.Core.Option.{Option, none, some}
 use Prim.Native.Nat.{ℕ, zero, suc, _+_, _≤_, _<_}
 use native.Mathlib.Omega.{arith}
-use lib.Dec.{eqb}
-use borrow.Author.Tests.{eq-eqb, ne-eqb, eqb-true, eqb-false}
 use Rattle.definitions.specs.Basics.{_>>=_, iterate}
-use Rattle.definitions.specs.Limits.{commands, absent, largestPlanCost}
+use Rattle.definitions.specs.Limits.{commands, largestPlanCost}
 use Rattle.definitions.specs.Tree.{Tree, Sound}
 use Rattle.definitions.specs.Step.{counting, Arrival}
-use Rattle.definitions.specs.Book.{number}
 use Rattle.definitions.specs.Sheet.{Rows}
 use Rattle.definitions.specs.Truth.{nodeExit, move, Named, Ended}
 use Rattle.definitions.proofs.Options.{bind-some, none-some, some-same}
@@ -18,40 +14,8 @@ use Rattle.definitions.proofs.Path.{counting-range}
 use Rattle.definitions.proofs.Local.{Relaxed, Attained, move-parts}
 use Rattle.definitions.proofs.LocalTruth.{move-owned}
 use Rattle.search.specs.Search.{Certificate, unreached, reached}
+use Rattle.search.proofs.Reading.{reached-is, reached-some, reached-none, number-is, number-none}
 use Rattle.refreshing.specs.Parts.{Members, placed, NodesFilled, Way, ExitFilled}
-
--- ---- words that say a cost or a number
-
--- a word that is not the one for none says itself
-pub reached-is : (w : ℕ) → (w ≡ unreached → ⊥) → reached w ≡ some w
-unfolding reached
-reached-is w other = rw (ne-eqb w unreached other)
-
--- what a word says is itself
-pub reached-some : (w : ℕ) {c : ℕ} → reached w ≡ some c → (w ≡ c) × (w ≡ unreached → ⊥)
-unfolding reached
-reached-some w {c} e = go (eqb w unreached) refl
-  where
-    go : (b : Bool) → eqb w unreached ≡ b → (w ≡ c) × (w ≡ unreached → ⊥)
-    go true h = absurd (none-some {o = none} {a = c} refl (rw h at e))
-    go false h = (some-same refl (rw h at e), eqb-false w unreached h)
-
--- only the word for none says nothing
-pub reached-none : (w : ℕ) → reached w ≡ none → w ≡ unreached
-unfolding reached
-reached-none w e = go (eqb w unreached) refl
-  where
-    go : (b : Bool) → eqb w unreached ≡ b → w ≡ unreached
-    go true h = eqb-true w unreached h
-    go false h = absurd (none-some {o = some w} (rw h at e) refl)
-
-pub number-is : (w : ℕ) → (w ≡ absent → ⊥) → number w ≡ some w
-unfolding number
-number-is w other = rw (ne-eqb w absent other)
-
-pub number-none : (w : ℕ) → w ≡ absent → number w ≡ none
-unfolding number
-number-none w same = rw (eq-eqb w absent same)
 
 module _ {t : Tree} (sound : Sound t) {q : Rows} {m s : ℕ} (used : t .start m ≡ some s) {k : ℕ} {members places : ℕ → ℕ}
     (g : Members t m k members places) {step : ℕ → ℕ → Option Arrival} {distance before by : ℕ → Option ℕ}

@@ -14,14 +14,14 @@ use Rattle.definitions.specs.Book.{number, transitionWord}
 use Rattle.definitions.specs.Sheet.{Rows, costOf, rowsOf}
 use Rattle.definitions.specs.Truth.{nodeExit}
 use Rattle.definitions.proofs.Options.{none-some, some-same, present, equal-or-not, put-same, put-other}
-use Rattle.definitions.proofs.Words.{no-transition, some-transition}
+use Rattle.book.proofs.Counts.{no-counting, some-counting}
 use Rattle.search.specs.Search.{unreached, reached}
 use Rattle.search.specs.Parts.{at}
 use Rattle.sheet.specs.Fields.{Leaves, withExit, withLast}
 use Rattle.sheet.proofs.Stores.{leaves-then}
+use Rattle.search.proofs.Reading.{reached-is, reached-some}
 use Rattle.refreshing.specs.Parts.{ExitsKept, CostFits, distances, largestDistance, Way, LeavesAt, WayCosts, Cheapest}
 use Rattle.refreshing.specs.Parts.{IsNear, NearOut, ExitWritten, ExitsWritten}
-use Rattle.refreshing.proofs.Certified.{reached-is, reached-some}
 use Rattle.refreshing.proofs.Row.{kept-exit, cheapest-kept}
 
 -- ---- what leaving from one node costs
@@ -60,13 +60,11 @@ module _ {t : Tree} (r : Rows) (n x d : ℕ) where
 
   -- a node with a transition for the command
   pub way-taken : {w : ℕ} → Sound t → w ≡ transitionWord (counting t n x) → (w ≡ blank → ⊥) → WayCosts t r n (reached d) x unreached
-  unfolding counting
-  way-taken sound says there = no-way (λ c way. none-some (way .free) (some-transition t sound n x says there))
+  way-taken sound says there = no-way (λ c way. none-some (way .free) (some-counting sound n x says there))
 
   -- a node without one: by its own exit cost
   pub way-left : {w c : ℕ} → Sound t → IsNear d → (d ≡ unreached → ⊥) → w ≡ transitionWord (counting t n x) → w ≡ blank
       → LeavesAt (nodeExit t r n x) d 0 c → WayCosts t r n (reached d) x c
-  unfolding counting
   way-left {w} {c} sound far there says free left = go (nodeExit t r n x) refl
     where
       is : reached d ≡ some d
@@ -82,7 +80,7 @@ module _ {t : Tree} (r : Rows) (n x d : ℕ) where
               node-cost = d;
               node-exit = e;
               reached = is;
-              free = no-transition t sound n x says free;
+              free = no-counting sound n x says free;
               exits = exit;
               exact = omega arith;
             };

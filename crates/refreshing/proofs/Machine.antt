@@ -17,7 +17,8 @@ use Rattle.definitions.proofs.Words.{under-in, start-range}
 use Rattle.search.specs.Search.{Certificate, Searched, Tables, reached, distanceOf, nameOf, moveOf}
 use Rattle.search.specs.Parts.{at}
 use Rattle.sheet.specs.Fields.{Leaves, withMark}
-use Rattle.refreshing.specs.Parts.{Fills, ExitsKept, Members, Gathered, Tabled, TableRoom, Searches, FoundRoom}
+use Rattle.search.specs.Tables.{Tabled, TableRoom, FoundRoom}
+use Rattle.refreshing.specs.Parts.{Fills, ExitsKept, Members, Gathered, Searches, memberMove}
 use Rattle.refreshing.specs.Parts.{NodesFilled, Writable, NodesWritten, ExitFilled, IsNear, NearOut, ExitsWritten}
 use Rattle.refreshing.specs.Refresh.{Fillable, Filled}
 use Rattle.refreshing.proofs.Gathering.{gathered-members}
@@ -39,7 +40,7 @@ name-at k names {i} small = under-in k i (number (at names i)) small
 -- the source is a place, and the tables are what the search asks
 pub search-ready : {t : Tree} → Sound t → {r : Rows} → TrueRows t r → {m s k : ℕ} → t .start m ≡ some s → Fillable t m r
     → {members places target price : List ℕ} → Gathered t m nodes k members places → TableRoom target price
-    → Tabled t r k (at members) (at places) target price → Tables k (at places s) target price
+    → Tabled (memberMove t r (at members) (at places)) k target price → Tables k (at places s) target price
 search-ready sound rows used able g room table =
     moves-tables sound rows used (able .stale) (able .below) (gathered-members sound g) table (omega (arith, room .target-room, g .many))
     (omega (arith, room .price-room, g .many))
@@ -57,7 +58,7 @@ start-told {t} sound {m} {w} able says =
 
 -- the search is done
 pub searched-found : {t : Tree} {r : Rows} {m k w source : ℕ} {members places target price dist before by dist′ before′ by′ : List ℕ}
-    → Gathered t m nodes k members places → Tabled t r k (at members) (at places) target price → w ≡ word (t .start m) → source ≡ at places w
+    → Gathered t m nodes k members places → Tabled (memberMove t r (at members) (at places)) k target price → w ≡ word (t .start m) → source ≡ at places w
     → FoundRoom dist′ before′ by′ → Searched k source k target price dist before by dist′ before′ by′
     → Searches t r m k members places target price dist′ before′ by′
 unfolding word

@@ -15,8 +15,8 @@ use Rattle.search.specs.Search.{unreached, reached}
 use Rattle.search.specs.Parts.{at}
 use Rattle.sheet.specs.Fields.{Leaves, withCost, withBefore, withBy}
 use Rattle.sheet.proofs.Stores.{leaves-then}
+use Rattle.search.proofs.Reading.{reached-is, number-is, number-none}
 use Rattle.refreshing.specs.Parts.{memberOf, CostFits, PlaceFits, withNode, Writable, NodesWritten}
-use Rattle.refreshing.proofs.Certified.{reached-is, number-is, number-none}
 
 -- ---- the words of one node
 

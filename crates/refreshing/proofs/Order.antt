@@ -14,7 +14,7 @@ use Rattle.definitions.specs.Sheet.{Rows, rowsOf}
 use Rattle.definitions.specs.Truth.{TrueSheet}
 use Rattle.definitions.proofs.Options.{true-false, present, equal-or-not}
 use Rattle.definitions.proofs.Words.{marks-words}
-use Rattle.truesheet.proofs.Machines.{is-stale}
+use Rattle.sheet.proofs.Reading.{is-stale}
 use Rattle.sheet.specs.Fields.{Mark}
 use Rattle.refreshing.specs.Parts.{Fills}
 use Rattle.refreshing.specs.Refresh.{machineLevel, Fillable, Filled, Kept, FreshBelow, StepFilled, LevelFilled, FilledBelow, Refreshes}

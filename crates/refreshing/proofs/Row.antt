@@ -16,7 +16,8 @@ use Rattle.definitions.proofs.LocalTruth.{move-owned}
 use Rattle.rows.proofs.Locality.{SameMoves, same-exit, same-move}
 use Rattle.search.specs.Search.{Certificate, Tables, moveOf}
 use Rattle.search.proofs.Reading.{move-some, move-row, row-words}
-use Rattle.refreshing.specs.Parts.{Fills, Members, placed, Tabled, NodesFilled, Way, Cheapest, ExitFilled, ExitsKept}
+use Rattle.search.specs.Tables.{Tabled}
+use Rattle.refreshing.specs.Parts.{Fills, Members, placed, NodesFilled, Way, Cheapest, ExitFilled, ExitsKept, memberMove}
 use Rattle.refreshing.proofs.Bounds.{below-other, own-exit-bound, move-bound}
 use Rattle.refreshing.proofs.Filling.{fill-true}
 use Rattle.refreshing.proofs.Certified.{certified-relaxed, certified-attained}
@@ -82,7 +83,7 @@ module _ {t : Tree} (sound : Sound t) {r : Rows} (rows : TrueRows t r) {m s : �
   pub exits-bound : (i x e : ℕ) → i < k → x < commands → nodeExit t r (members i) x ≡ some e → e ≤ largestPlanCost
   exits-bound i x e small = own-exit-bound sound r rows (members i) (λ b bel. below (members i) b (g .owned i small) bel) x e
 
-  module _ {target price : List ℕ} (table : Tabled t r k members places target price) where
+  module _ {target price : List ℕ} (table : Tabled (memberMove t r members places) k target price) where
     -- the tables are what the search asks
     pub moves-tables : commands * k ≤ length target → commands * k ≤ length price → Tables k (places s) target price
     moves-tables targets prices =

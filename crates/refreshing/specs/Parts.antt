@@ -13,8 +13,9 @@ use Rattle.definitions.specs.Step.{counting, Arrival}
 use Rattle.definitions.specs.Book.{number}
 use Rattle.definitions.specs.Sheet.{Rows, rowsOf}
 use Rattle.definitions.specs.Truth.{nodeExit, move}
-use Rattle.search.specs.Search.{Certificate, largestMove, unreached, reached, rowMove, moveOf, distanceOf, nameOf}
+use Rattle.search.specs.Search.{Certificate, largestMove, unreached, reached, moveOf, distanceOf, nameOf}
 use Rattle.search.specs.Parts.{at}
+use Rattle.search.specs.Tables.{FoundRoom, Tabled}
 use Rattle.sheet.specs.Fields.{Leaves, withExit, withLast, withCost, withBefore, withBy}
 
 -- ---- the rows of one machine
@@ -58,9 +59,9 @@ pub record Gathered (t : Tree) (m j k : ℕ) (members places : List ℕ) : Type 
 abbrev pub placed : (ℕ → ℕ) → Option Arrival → Option Arrival
 placed places o = o >>= λ b. some (record { node = places (b .node); cost = b .cost })
 
--- the move that an entry of the tables says
-unfoldable pub entryMove : ℕ → ℕ → Option Arrival
-entryMove target price = number target >>= λ v. some (record { node = v; cost = price })
+-- the moves of the nodes at their places
+abbrev pub memberMove : Tree → Rows → (ℕ → ℕ) → (ℕ → ℕ) → ℕ → ℕ → Option Arrival
+memberMove t r members places i x = placed places (move t r (members i) x)
 
 -- every node of n's machine has a place
 pub record Placing (t : Tree) (places : List ℕ) (n : ℕ) : Type 0 where
@@ -68,28 +69,13 @@ pub record Placing (t : Tree) (places : List ℕ) (n : ℕ) : Type 0 where
   pub used : (m : ℕ) × (t .owner n ≡ some m)
   pub small : (v : ℕ) → t .owner v ≡ t .owner n → at places v < nodes
 
--- the first k rows of the tables have the moves of the k nodes
-pub record Tabled (t : Tree) (r : Rows) (k : ℕ) (members places : ℕ → ℕ) (target price : List ℕ) : Type 0 where
-  pub moves : (i x : ℕ) → i < k → x < commands → rowMove target price i x ≡ placed places (move t r (members i) x)
-
--- the tables have room for every node's moves
-pub record TableRoom (target price : List ℕ) : Type 0 where
-  pub target-room : length target ≡ commands * nodes
-  pub price-room : length price ≡ commands * nodes
-
 -- ---- what the search finds
-
--- the lists for what is found have room for every node
-pub record FoundRoom (dist before by : List ℕ) : Type 0 where
-  pub dist-room : length dist ≡ nodes
-  pub before-room : length before ≡ nodes
-  pub by-room : length by ≡ nodes
 
 -- the nodes of machine m are gathered, and the search over them is done
 pub record Searches (t : Tree) (r : Rows) (m k : ℕ) (members places target price dist before by : List ℕ) : Type 0 where
   pub gathered : Gathered t m nodes k members places
   pub room : FoundRoom dist before by
-  pub tabled : Tabled t r k (at members) (at places) target price
+  pub tabled : Tabled (memberMove t r (at members) (at places)) k target price
   pub certificate : (s : ℕ) → t .start m ≡ some s
       → Certificate k (at places s) k (moveOf k target price) (distanceOf k dist) (nameOf k before) (nameOf k by)
 

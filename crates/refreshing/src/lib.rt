@@ -7,17 +7,19 @@ ghost use Rattle.definitions.specs.Limits.{machines, nodes, commands, sheetLeng
 ghost use Rattle.definitions.specs.Book.{number, treeOf, WellFormed};
 ghost use Rattle.definitions.specs.Sheet.{costOf, rowsOf};
 ghost use Rattle.definitions.specs.Truth.{nodeExit, move, TrueSheet};
-ghost use Rattle.search.specs.Search.{reached};
+ghost use Rattle.search.specs.Search.{reached, entryMove};
 ghost use Rattle.search.specs.Parts.{at};
-ghost use Rattle.truesheet.specs.Fits.{Holding};
+ghost use Rattle.search.specs.Tables.{TableRoom, FoundRoom, Tabled};
+ghost use Rattle.sheet.specs.Exits.{Readable};
 ghost use Rattle.sheet.specs.Fields.{Leaves};
-ghost use Rattle.refreshing.specs.Parts.{Gathered, placed, entryMove, Placing, Tabled, TableRoom, Searches, FoundRoom};
+ghost use Rattle.refreshing.specs.Parts.{Gathered, placed, memberMove, Placing, Searches};
 ghost use Rattle.refreshing.specs.Parts.{memberOf, withNode, CostFits, PlaceFits, Writable, NodesWritten};
 ghost use Rattle.refreshing.specs.Parts.{distances, largestDistance, LeavesAt, WayCosts, Cheapest, IsNear, Near, NearOut};
 ghost use Rattle.refreshing.specs.Parts.{ExitWritten, ExitsWritten};
 ghost use Rattle.refreshing.specs.Refresh.{machineLevel, MachineLevels, Fillable, Filled, FreshBelow, StepFilled, FilledBelow};
 ghost use Rattle.refreshing.specs.Refresh.{Refreshes};
-use truesheet::OwnExit;
+use sheet::OwnExit;
+use sheet::wide;
 
 // How many levels there are.
 const LEVELS: u32 = 8;
@@ -32,13 +34,6 @@ struct Entry {
 struct WayOut {
     cost: u64,
     node: u32,
-}
-
-// The number in 64 bits.
-fn wide(x: u32) -> u64
-    ensures { λ r. ⌜ r ≡ x ⌝ }
-{
-    x as u64
 }
 
 // The number at place i of a list.
@@ -78,10 +73,10 @@ fn gather(book: &[u32], m: u32, members: &mut [u32], places: &mut [u32]) -> u32
 
 // What it costs to come to node n at cost d, leave it by command x and go on at cost w; UNREACHED where n is never left by x.
 fn leave(book: &[u32], sheet: &[u32], n: u32, x: u32, d: u64, w: u32) -> u64
-    requires { ⌜ Holding (now book) (now sheet) × (n < nodes) × (x < commands) × (d ≤ largestDistance) ⌝ }
+    requires { ⌜ Readable (now book) (now sheet) × (n < nodes) × (x < commands) × (d ≤ largestDistance) ⌝ }
     ensures { λ r. ⌜ LeavesAt (nodeExit (treeOf (now (book .entry))) (rowsOf (now (sheet .entry))) n x) d w r ⌝ }
 {
-    let OwnExit::Costs(e) = truesheet::own_exit(book, sheet, n, x) else {
+    let OwnExit::Costs(e) = sheet::own_exit(book, sheet, n, x) else {
         return search::UNREACHED;
     };
     d + e + wide(w)
@@ -89,11 +84,11 @@ fn leave(book: &[u32], sheet: &[u32], n: u32, x: u32, d: u64, w: u32) -> u64
 
 // The move of node n for command x, as an entry of the tables. What it may need is read first, so that the tests only pick.
 fn table_entry(book: &[u32], sheet: &[u32], places: &[u32], n: u32, x: u32) -> Entry
-    requires { ⌜ Holding (now book) (now sheet) × Placing (treeOf (now book)) (now places) n × (x < commands) ⌝ }
+    requires { ⌜ Readable (now book) (now sheet) × Placing (treeOf (now book)) (now places) n × (x < commands) ⌝ }
     ensures { λ r. ⌜ entryMove (r .target) (r .price)
         ≡ placed (at (now (places .entry))) (move (treeOf (now (book .entry))) (rowsOf (now (sheet .entry))) n x) ⌝ }
 {
-    let w = truesheet::counting(book, n, x);
+    let w = book::counting(book, n, x);
     let price = leave(book, sheet, n, x, 0, w % 65536);
     let v = word(places, w / 65536 % book::NODES);
     if w == book::BLANK {
@@ -121,10 +116,10 @@ fn tables(
     target: &mut [u32],
     price: &mut [u64],
 )
-    requires { ⌜ Holding (now book) (now sheet) × ((m : ℕ) × Gathered (treeOf (now book)) m nodes k (now members) (now places))
+    requires { ⌜ Readable (now book) (now sheet) × ((m : ℕ) × Gathered (treeOf (now book)) m nodes k (now members) (now places))
         × TableRoom (now target) (now price) ⌝ }
-    ensures { λ _. ⌜ Tabled (treeOf (now (book .entry))) (rowsOf (now (sheet .entry))) k (at (now (members .entry)))
-        (at (now (places .entry))) (now (target .exit)) (now (price .exit)) ⌝ }
+    ensures { λ _. ⌜ Tabled (memberMove (treeOf (now (book .entry))) (rowsOf (now (sheet .entry))) (at (now (members .entry)))
+        (at (now (places .entry)))) k (now (target .exit)) (now (price .exit)) ⌝ }
 {
     let mut j = 0u32;
     while j < 16 * k {
@@ -227,14 +222,14 @@ fn write_nodes(sheet: &mut [u32], k: u32, members: &[u32], dist: &[u64], before:
 // What it costs to leave a machine by command x from its node n at distance d; UNREACHED where that is no way out. The sum is made first,
 // so that the last test only picks.
 fn way_cost(book: &[u32], sheet: &[u32], n: u32, d: u64, x: u32) -> u64
-    requires { ⌜ Holding (now book) (now sheet) × (n < nodes) × IsNear d × (x < commands) ⌝ }
+    requires { ⌜ Readable (now book) (now sheet) × (n < nodes) × IsNear d × (x < commands) ⌝ }
     ensures { λ r. ⌜ WayCosts (treeOf (now (book .entry))) (rowsOf (now (sheet .entry))) n (reached d) x r ⌝ }
 {
     if d == search::UNREACHED {
         return search::UNREACHED;
     }
     let way = leave(book, sheet, n, x, d, 0);
-    if truesheet::counting(book, n, x) != book::BLANK {
+    if book::counting(book, n, x) != book::BLANK {
         return search::UNREACHED;
     }
     way
@@ -242,7 +237,7 @@ fn way_cost(book: &[u32], sheet: &[u32], n: u32, d: u64, x: u32) -> u64
 
 // The cheapest way out by command x from the k nodes.
 fn cheapest(book: &[u32], sheet: &[u32], k: u32, members: &[u32], dist: &[u64], x: u32) -> WayOut
-    requires { ⌜ Holding (now book) (now sheet) × Near k (now members) (now dist) × (x < commands) ⌝ }
+    requires { ⌜ Readable (now book) (now sheet) × Near k (now members) (now dist) × (x < commands) ⌝ }
     ensures { λ r. ⌜ Cheapest (treeOf (now (book .entry))) (rowsOf (now (sheet .entry))) (at (now (members .entry)))
         (distances (now (dist .entry))) x k (r .cost) (r .node) ⌝ }
 {
@@ -272,7 +267,7 @@ fn write_exit(
     dist: &[u64],
     x: u32,
 )
-    requires { ⌜ Holding (now book) (now sheet) × (m < machines)
+    requires { ⌜ Readable (now book) (now sheet) × (m < machines)
         × NearOut (treeOf (now book)) (rowsOf (now sheet)) m k (now members) (now dist) × (x < commands) ⌝ }
     ensures { λ _. ⌜ ExitWritten (treeOf (now (book .entry))) m k x (now (members .entry)) (now (dist .entry))
         (now (sheet .entry)) (now (sheet .exit)) ⌝ }
@@ -284,7 +279,7 @@ fn write_exit(
 
 // Writes the exits of machine m.
 fn write_exits(book: &[u32], sheet: &mut [u32], m: u32, k: u32, members: &[u32], dist: &[u64])
-    requires { ⌜ Holding (now book) (now sheet) × (m < machines)
+    requires { ⌜ Readable (now book) (now sheet) × (m < machines)
         × NearOut (treeOf (now book)) (rowsOf (now sheet)) m k (now members) (now dist) ⌝ }
     ensures { λ _. ⌜ ExitsWritten (treeOf (now (book .entry))) m k commands (now (members .entry)) (now (dist .entry))
         (now (sheet .entry)) (now (sheet .exit)) ⌝ }

@@ -14,9 +14,10 @@ use Rattle.definitions.specs.Edit.{heldWithin, without, withStale, edited, touc
 use Rattle.definitions.proofs.Words.{same-rows}
 use Rattle.definitions.proofs.Commands.{TakenRemove, taken-remove}
 use Rattle.sheet.proofs.Stores.{leaves-then}
-use Rattle.marking.specs.Chosen.{chosen, upTo}
-use Rattle.marking.specs.Stale.{withBlankNodes, LeavesStaleOver}
-use Rattle.marking.proofs.Blanks.{leaves-same}
+use Rattle.book.specs.Chosen.{chosen, upTo}
+use Rattle.sheet.specs.Fields.{withBlankNodes}
+use Rattle.marking.specs.Stale.{LeavesStaleOver}
+use Rattle.sheet.proofs.Stores.{leaves-same}
 use Rattle.clearing.specs.Gone.{Left, MachinesGone, withoutNodes, withoutMachines, withoutMachineRows}
 use Rattle.clearing.proofs.Laws.{left-then, machines-all}
 use Rattle.editing.specs.Edited.{Ready, Edited}

@@ -19,7 +19,7 @@ use Rattle.definitions.proofs.Options.{present, equal-or-not}
 use Rattle.definitions.proofs.Path.{level-on}
 use Rattle.definitions.proofs.Words.{present-word, no-owner, no-holder, owner-range, holder-range}
 use Rattle.definitions.proofs.Commands.{within-self, within-top, within-up}
-use Rattle.marking.specs.Chosen.{chosen}
+use Rattle.book.specs.Chosen.{chosen}
 use Rattle.removing.specs.Within.{Listed, goesWith}
 
 -- a node that is not in use is within itself alone

@@ -19,8 +19,9 @@ use Rattle.definitions.proofs.Options.{some-same, equal-or-not}
 use Rattle.definitions.proofs.Words.{same-tree, same-rows, present-word, absent-word, owner-range}
 use Rattle.book.specs.Fields.{Holds, withTransitions}
 use Rattle.stepping.proofs.Laws.{owner-told}
-use Rattle.marking.specs.Chosen.{chosen}
-use Rattle.marking.specs.Stale.{withBlankNodes, ownedBy}
+use Rattle.book.specs.Chosen.{chosen}
+use Rattle.sheet.specs.Fields.{withBlankNodes}
+use Rattle.marking.specs.Stale.{ownedBy}
 use Rattle.clearing.specs.Gone.{Sized, Left, NodeDropped}
 use Rattle.clearing.proofs.Laws.{left-same, left-then, left-idle}
 use Rattle.removing.specs.Within.{Listed, notInto, withoutIntoAt, withoutInto, goesWith, cut, withNodeOf, withRowOf, OwnerInRange, Linked}

@@ -13,8 +13,9 @@ use Rattle.definitions.specs.Tree.{Tree, Transition, within}
 use Rattle.definitions.specs.Book.{treeOf}
 use Rattle.definitions.specs.Sheet.{Rows, rowsOf}
 use Rattle.book.specs.Fields.{withTransitions}
-use Rattle.marking.specs.Chosen.{chosen}
-use Rattle.marking.specs.Stale.{withBlankNodes, ownedBy}
+use Rattle.book.specs.Chosen.{chosen}
+use Rattle.sheet.specs.Fields.{withBlankNodes}
+use Rattle.marking.specs.Stale.{ownedBy}
 use Rattle.clearing.specs.Gone.{Left, withoutNodes}
 
 -- a list of as many numbers as there are machines has 1 at those that pass the test, as far as i

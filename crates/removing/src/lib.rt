@@ -10,7 +10,7 @@ ghost use Rattle.definitions.specs.Book.{treeOf, WellFormed};
 ghost use Rattle.definitions.specs.Stream.{Edit};
 ghost use Rattle.definitions.specs.Edit.{heldWithin, withTransition};
 ghost use Rattle.book.specs.Fields.{Holds};
-ghost use Rattle.marking.specs.Chosen.{chosen};
+ghost use Rattle.book.specs.Chosen.{chosen};
 ghost use Rattle.clearing.specs.Gone.{Sized};
 ghost use Rattle.editing.specs.Edited.{Ready, Edited};
 ghost use Rattle.removing.specs.Within.{Listed, notInto, withoutIntoAt, goesWith, OwnerInRange, Linked, RemovedAt, NodesRemoved};

@@ -10,3 +10,4 @@ pub mod Ended
 pub mod Turning
 pub mod Cut
 pub mod Least
+pub mod Tables

@@ -13,7 +13,7 @@ use Rattle.definitions.specs.Step.{Arrival}
 use Rattle.definitions.specs.Book.{number, under}
 use Rattle.definitions.proofs.Options.{bind-some, none-some, some-same}
 use Rattle.definitions.proofs.Words.{under-in, under-some}
-use Rattle.search.specs.Search.{unreached, reached, rowMove, moveOf, distanceOf, nameOf}
+use Rattle.search.specs.Search.{unreached, reached, entryMove, rowMove, moveOf, distanceOf, nameOf}
 use Rattle.search.specs.Parts.{at}
 
 -- ---- a number under its limit
@@ -48,6 +48,28 @@ silent blank w e = go (eqb w blank) refl
     go : (t : Bool) → eqb w blank ≡ t → w ≡ blank
     go true h = eqb-true w blank h
     go false h = absurd (none-some {o = some w} (rw h at e) refl)
+
+-- the same of distances
+pub reached-is : (w : ℕ) → (w ≡ unreached → ⊥) → reached w ≡ some w
+unfolding reached
+reached-is w other = says unreached w other
+
+pub reached-some : (w : ℕ) {c : ℕ} → reached w ≡ some c → (w ≡ c) × (w ≡ unreached → ⊥)
+unfolding reached
+reached-some w e = said unreached w e
+
+pub reached-none : (w : ℕ) → reached w ≡ none → w ≡ unreached
+unfolding reached
+reached-none w e = silent unreached w e
+
+-- and of numbers: a word other than the one for absent says itself, and that one says none
+pub number-is : (w : ℕ) → (w ≡ absent → ⊥) → number w ≡ some w
+unfolding number
+number-is w other = says absent w other
+
+pub number-none : (w : ℕ) → w ≡ absent → number w ≡ none
+unfolding number
+number-none w same = rw (eq-eqb w absent same)
 
 -- ---- distances and names
 
@@ -85,14 +107,14 @@ module _ (target price : List ℕ) (u x : ℕ) where
   -- a row has a move where the target's word is a node
   pub row-is : x < commands → (getD target (commands * u + x) 0 ≡ absent → ⊥)
       → rowMove target price u x ≡ some (record { node = getD target (commands * u + x) 0; cost = getD price (commands * u + x) 0 })
-  unfolding rowMove number
+  unfolding rowMove entryMove number
   row-is range h =
       under-in commands x _ range
       ∙ ap (λ (o : Option ℕ). o >>= λ v. some (record { node = v; cost = getD price (commands * u + x) 0 })) (says absent (getD target (commands * u + x) 0) h)
 
   -- it has none where that word is blank
   pub row-none : getD target (commands * u + x) 0 ≡ absent → rowMove target price u x ≡ none
-  unfolding rowMove number
+  unfolding rowMove entryMove number
   row-none e = under-none commands x _ (λ range. rw (eq-eqb (getD target (commands * u + x) 0) absent e))
 
   -- the moves of the first k rows
@@ -111,7 +133,7 @@ module _ (target price : List ℕ) (u x : ℕ) where
       × (getD target (commands * u + x) 0 ≡ absent → ⊥)
       × (getD target (commands * u + x) 0 ≡ b .node)
       × (getD price (commands * u + x) 0 ≡ b .cost)
-  unfolding rowMove number
+  unfolding rowMove entryMove number
   row-words {b} e =
       let (range, there) = under-some commands x _ e in
       let (v, has, same) =

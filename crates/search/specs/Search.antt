@@ -24,10 +24,13 @@ unreached = 18446744073709551615
 unfoldable pub reached : ℕ → Option ℕ
 reached w = cond (eqb w unreached) none (some w)
 
--- the move that row u of the tables has for command x: where it leads and what it costs
+-- the move that an entry of the tables says: where it leads and what it costs
+unfoldable pub entryMove : ℕ → ℕ → Option Arrival
+entryMove target price = number target >>= λ v. some (record { node = v; cost = price })
+
+-- the move that row u of the tables has for command x
 unfoldable pub rowMove : List ℕ → List ℕ → ℕ → ℕ → Option Arrival
-rowMove target price u x =
-    under commands x (number (getD target (commands * u + x) 0) >>= λ v. some (record { node = v; cost = getD price (commands * u + x) 0 }))
+rowMove target price u x = under commands x (entryMove (getD target (commands * u + x) 0) (getD price (commands * u + x) 0))
 
 -- the moves of the first k rows
 unfoldable pub moveOf : ℕ → List ℕ → List ℕ → ℕ → ℕ → Option Arrival

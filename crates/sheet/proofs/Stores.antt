@@ -1,7 +1,7 @@
 -- What the words of a sheet say, and what its rows are after one word of it is written. Assumes nothing.
 use mathlib.Core.Path.{_≡_, refl, ap, ap₂, sym, _∙_}
 use mathlib.Core.Logic.{_⊎_, inl, inr, ⊎-elim}
-use mathlib.Core.Bool.{Bool, false}
+use mathlib.Core.Bool.{Bool, false, _||_}
 use mathlib.Core.Option.{Option, none}
 use mathlib.Core.List.{List}
 use Prim.Native.Nat.{ℕ, zero, suc, _+_, _*_, _≤_, _<_}
@@ -19,7 +19,8 @@ use Rattle.definitions.proofs.Words.{same-rows, under-in, word-number, word-cos
 use Rattle.definitions.proofs.Options.{equal-or-not}
 use Rattle.book.proofs.Places.{kept, kept-grid, Apart, place-same, stored, unstored, field-put, field-kept, grid-put, grid-kept}
 use Rattle.book.proofs.Places.{clearedTo, cleared-none, cleared-more, cleared-all, grid-past}
-use Rattle.sheet.specs.Fields.{Marks, Mark, Leaves, withMark, withExits, withExit, withLast, withNodeRow, withBlankMachine}
+use Rattle.book.proofs.Chosen.{unless-both}
+use Rattle.sheet.specs.Fields.{Marks, Mark, Leaves, withMark, withExits, withExit, withLast, withNodeRow, withBlankMachine, withBlankNodes}
 
 -- ---- what words say
 
@@ -250,6 +251,21 @@ leaves-then f first second =
       marks = λ marks. second .marks (first .marks marks);
       rows = second .rows ∙ ap f (first .rows);
     }
+
+-- a sheet that was left as it is
+pub untouched : (ws : List ℕ) → length ws ≡ sheetLength → Leaves ws ws (rowsOf ws)
+untouched ws l = record { length = l; marks = λ marks. marks; rows = refl }
+
+-- left with rows r, which are rows q
+pub leaves-same : {a b : List ℕ} {r q : Rows} → Leaves a b r → r ≡ q → Leaves a b q
+leaves-same left e = record { length = left .length; marks = left .marks; rows = left .rows ∙ e }
+
+-- blank by one test and then by another
+pub blank-both : (r : Rows) (a b : ℕ → Bool) → withBlankNodes (withBlankNodes r a) b ≡ withBlankNodes r (λ k. a k || b k)
+blank-both r a b =
+    same-rows _ _ (λ m. refl) (λ m x. refl) (λ m x. refl) (λ n. unless-both (a n) (b n) (r .cost n))
+    (λ n. unless-both (a n) (b n) (r .before n))
+    (λ n. unless-both (a n) (b n) (r .by n))
 
 -- a sheet's rows with machine m's row blank below command x
 abbrev pub blankedTo : List ℕ → ℕ → ℕ → Rows

@@ -7,7 +7,7 @@ use mathlib.Core.List.{List}
 use Prim.Native.Nat.{ℕ, zero, suc, _<_}
 use lib.Dec.{eqb}
 use lib.ListN.{length}
-use Rattle.definitions.specs.Basics.{put}
+use Rattle.definitions.specs.Basics.{put, unless}
 use Rattle.definitions.specs.Limits.{machines, sheetLength}
 use Rattle.definitions.specs.Book.{number}
 use Rattle.definitions.specs.Sheet.{Rows, costOf, staleWord, machineRowWord, rowsOf}
@@ -116,4 +116,16 @@ withBlankNode r n =
       cost = put (r .cost) n none;
       before = put (r .before) n none;
       by = put (r .by) n none;
+    }
+
+-- the rows where the rows of the nodes that pass the test are blank
+abbrev pub withBlankNodes : Rows → (ℕ → Bool) → Rows
+withBlankNodes r gone =
+    record {
+      stale = r .stale;
+      exit = r .exit;
+      last = r .last;
+      cost = λ n. unless (gone n) (r .cost n);
+      before = λ n. unless (gone n) (r .before n);
+      by = λ n. unless (gone n) (r .by n);
     }

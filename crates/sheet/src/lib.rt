@@ -1,18 +1,26 @@
 // The words of a sheet (document 01, "Book and sheet in memory"), read and written one at a time. A sheet here has its 2,880 words, and
 // numbers are in range; what a word says is then what the sheet's rows say, and a store changes one field of those rows. BLANK and ABSENT
-// are the book's.
+// are the book's. From book and sheet together: what leaving a node costs.
 ghost use mathlib.Core.Path.{_≡_};
 ghost use Prim.Native.Nat.{_+_, _*_, _<_};
 ghost use lib.Dec.{eqb};
 ghost use lib.ListN.{length, set};
 ghost use Rattle.definitions.specs.Limits.{machines, nodes, commands, sheetLength};
-ghost use Rattle.definitions.specs.Book.{word, number};
+ghost use Rattle.definitions.specs.Book.{word, number, treeOf};
 ghost use Rattle.definitions.specs.Sheet.{machineRowLength, nodeRowLength, costWord, costOf, nodeRow, machineRowWord, rowsOf};
+ghost use Rattle.definitions.specs.Truth.{nodeExit};
+ghost use Rattle.sheet.specs.Exits.{Readable, exitLimit, Exits};
 ghost use Rattle.sheet.specs.Fields.{Mark, Leaves, withMark, withExit, withLast, withCost, withBefore, withBy, withNodeRow};
 ghost use Rattle.sheet.specs.Fields.{withBlankMachine, withBlankNode};
 
 // The words of a sheet.
 pub const SHEET: usize = 2880;
+
+// A node's own exit cost for a command, or that no list leaves it by that command.
+pub enum OwnExit {
+    Costs(u64),
+    Never,
+}
 
 // The word at place k of machine m's row.
 pub fn machine_row_word(sheet: &[u32], m: u32, k: u32) -> u32
@@ -78,6 +86,28 @@ pub fn by(sheet: &[u32], n: u32) -> u32
     ensures { λ r. ⌜ r ≡ word (rowsOf (now (sheet .entry)) .by n) ⌝ }
 {
     node_row_word(sheet, n, 2)
+}
+
+// The number in 64 bits, in which costs are added.
+pub fn wide(x: u32) -> u64
+    ensures { λ r. ⌜ (r ≡ x) × (r < exitLimit) ⌝ }
+{
+    x as u64
+}
+
+// The own exit cost of node n for command x: 0 for a plain node, and for a refined one what the sheet says of the machine below it. Whether n is
+// plain cannot be foreseen: a word is read in either case, so that no jump is needed.
+pub fn own_exit(book: &[u32], sheet: &[u32], n: u32, x: u32) -> OwnExit
+    requires { ⌜ Readable (now book) (now sheet) × (n < nodes) × (x < commands) ⌝ }
+    ensures { λ r. ⌜ Exits (nodeExit (treeOf (now (book .entry))) (rowsOf (now (sheet .entry))) n x) r ⌝ }
+{
+    let b = book::below(book, n);
+    let e = exit(sheet, b % book::MACHINES, x);
+    let own = if b == book::ABSENT { 0 } else { e };
+    if own == book::BLANK {
+        return OwnExit::Never;
+    }
+    OwnExit::Costs(wide(own))
 }
 
 // Makes v the word at place k of machine m's row; every other word stays.

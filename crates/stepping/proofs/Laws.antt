@@ -1,17 +1,16 @@
--- The climb, the level and entering, one node at a time, as the loops go. Leaving a machine costs nothing. Assumes nothing.
+-- The level and entering, one node at a time, as the loops go, and the step from what the climb finds. Assumes nothing.
 use mathlib.Core.Path.{_≡_, sym, _∙_, ap}
 use mathlib.Core.Option.{none, some}
 use mathlib.Core.List.{List}
-use Prim.Native.Nat.{ℕ, suc, _-_, _/_, _%_, _<_}
-use native.Mathlib.Nat.{zero-add}
+use Prim.Native.Nat.{ℕ, suc, _-_, _<_}
 use native.Mathlib.Omega.{arith}
 use lib.ListN.{length}
-use Rattle.definitions.specs.Limits.{machines, nodes, costs, levels, absent, blank}
-use Rattle.definitions.specs.Tree.{Tree, Transition, UsedNode, Sound, level}
-use Rattle.definitions.specs.Step.{counting, leaving, Climb, found, passed, past, climb, enter, follow, stepIn, step}
-use Rattle.definitions.specs.Book.{word, transitionWord, treeOf, WellFormed}
-use Rattle.definitions.proofs.Path.{Deep, at-root, under, deep, root-holder, path-root, climb-own, climb-top, climb-on, climb-found, enter-plain, enter-down, level-on, level-bound}
-use Rattle.definitions.proofs.Words.{present-word, owner-range, below-range, no-holder, no-below, no-transition, some-transition}
+use Rattle.definitions.specs.Limits.{machines, nodes, levels, absent}
+use Rattle.definitions.specs.Tree.{Tree, UsedNode, Sound, level}
+use Rattle.definitions.specs.Step.{found, passed, climb, enter, follow, stepIn, step}
+use Rattle.definitions.specs.Book.{word, treeOf, WellFormed}
+use Rattle.definitions.proofs.Path.{Deep, at-root, under, deep, path-root, climb-found, enter-plain, enter-down, level-on, level-bound}
+use Rattle.definitions.proofs.Words.{present-word, owner-range, below-range, no-holder, no-below}
 
 -- a machine in use that nothing holds is the root
 pub top-root : {t : Tree} → Sound t → {m f : ℕ} → t .start m ≡ some f → t .holder m ≡ none → m ≡ t .root
@@ -23,31 +22,7 @@ top-root {t} s {m} st free =
     go (at-root e) = e
     go (under hold own d) = absurd (let z : _≡_ {A = ℕ} 0 1 = cc in omega arith)
 
-past-free : (t : Tree) (m : ℕ) (k : Climb) → past (leaving t m) k ≡ k
-unfolding leaving
-past-free t m (found u v c) = ap (λ (d : ℕ). found u v d) (zero-add c)
-past-free t m (passed c) = ap (λ (d : ℕ). passed d) (zero-add c)
-
-module _ (t : Tree) (s : Sound t) {n m : ℕ} (x : ℕ) (own : t .owner n ≡ some m) where
-  -- a transition is found
-  pub climb-here : (a : Transition) → t .transition n x ≡ some a → climb t (t .root) n x ≡ found n (a .target) (a .cost)
-  unfolding counting
-  climb-here a e = climb-own t (t .root) n x a e
-
-  -- none at a node of the root
-  pub climb-ends : t .transition n x ≡ none → t .holder m ≡ none → climb t (t .root) n x ≡ passed 0
-  unfolding counting
-  climb-ends e free =
-      let (f, used) = s .owner-used n m own in
-      let at : t .owner n ≡ some (t .root) = own ∙ ap some (top-root s used free) in
-      climb-top t (t .root) n x at e
-
-  -- none at another node: on from the node that holds its machine
-  pub climb-up : {h : ℕ} → t .transition n x ≡ none → t .holder m ≡ some h → climb t (t .root) n x ≡ climb t (t .root) h x
-  unfolding counting
-  climb-up {h} e hold = climb-on s (t .root) x own (λ same. root-holder s same hold) hold e ∙ past-free t m (climb t (t .root) h x)
-
--- ---- the same, from what the words say
+-- ---- what the words of a node in use say
 
 module _ (ws : List ℕ) (w : WellFormed ws) (n : ℕ) (used : UsedNode (treeOf ws) n) where
   -- a node in use is in range, and so is its owner
@@ -61,34 +36,6 @@ module _ (ws : List ℕ) (w : WellFormed ws) (n : ℕ) (used : UsedNode (treeOf 
       let same : o ≡ used .0 = e ∙ ap word (used .1) in
       let own : treeOf ws .owner n ≡ some o = used .1 ∙ ap some (sym same) in
       (own, owner-range (treeOf ws) (w .sound) n o own .1)
-
-  -- a transition's word that is not blank is what the climb finds
-  pub transition-told : (x : ℕ) {a : ℕ} → a ≡ transitionWord (treeOf ws .transition n x) → (a ≡ blank → ⊥)
-      → climb (treeOf ws) (treeOf ws .root) n x ≡ found n (a / costs) (a % costs)
-  transition-told x e present = climb-here (treeOf ws) (w .sound) x (used .1) _ (some-transition (treeOf ws) (w .sound) n x e present)
-
-  -- no transition, and no node holds the owner
-  pub top-told : (x : ℕ) {a o h : ℕ} → a ≡ transitionWord (treeOf ws .transition n x) → a ≡ blank → o ≡ word (treeOf ws .owner n)
-      → h ≡ word (treeOf ws .holder o) → h ≡ absent → climb (treeOf ws) (treeOf ws .root) n x ≡ passed 0
-  top-told x {o = o} ea free eo eh top =
-      climb-ends (treeOf ws) (w .sound) x (owner-told eo .0) (no-transition (treeOf ws) (w .sound) n x ea free) (no-holder (treeOf ws) (w .sound) o eh top)
-
-  -- no transition, and node h holds the owner
-  pub record Climbed-on (x h : ℕ) : Type 0 where
-    pub used-holder : UsedNode (treeOf ws) h
-    pub same : climb (treeOf ws) (treeOf ws .root) n x ≡ climb (treeOf ws) (treeOf ws .root) h x
-    pub higher : level (treeOf ws) h < level (treeOf ws) n
-
-  pub up-told : (x : ℕ) {a o h : ℕ} → a ≡ transitionWord (treeOf ws .transition n x) → a ≡ blank → o ≡ word (treeOf ws .owner n)
-      → h ≡ word (treeOf ws .holder o) → (h ≡ absent → ⊥) → Climbed-on x h
-  up-told x {o = o} {h = h} ea free eo eh held =
-      let own = owner-told eo .0 in
-      let hold = present-word (treeOf ws .holder o) eh held in
-      record {
-        used-holder = w .sound .holder-used o h hold;
-        same = climb-up (treeOf ws) (w .sound) x own (no-transition (treeOf ws) (w .sound) n x ea free) hold;
-        higher = omega (arith, level-on (w .sound) own hold);
-      }
 
   -- ---- the level
 

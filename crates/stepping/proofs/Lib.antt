@@ -1,3 +1,5 @@
 pub mod Laws
 pub mod Says
 pub mod States
+pub mod Upward
+pub mod Climbing

@@ -34,7 +34,7 @@ pub fn climb(book: &[u32], s: u32, x: u32) -> Climbed
 {
     let mut n = s;
     loop {
-        let w = book::transition(book, n, x);
+        let w = book::counting(book, n, x);
         if w != book::BLANK {
             return Climbed::Found {
                 node: n,

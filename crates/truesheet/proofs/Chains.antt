@@ -13,7 +13,7 @@ use Rattle.definitions.specs.Limits.{nodes, longestChain}
 use Rattle.definitions.specs.Book.{word}
 use Rattle.definitions.specs.Sheet.{Rows}
 use Rattle.definitions.proofs.Options.{bind-some, none-some, some-same, equal-or-not}
-use Rattle.wellformed.proofs.Reading.{said-is}
+use Rattle.book.proofs.Said.{said-is}
 use Rattle.truesheet.specs.Fits.{Steps, Follows, uncounted, Counted}
 
 -- ---- one step

@@ -20,7 +20,7 @@ use Rattle.definitions.proofs.Path.{counting-range}
 use Rattle.definitions.proofs.Local.{Relaxed, Attained, LocalRows, move-parts}
 use Rattle.definitions.proofs.LocalTruth.{local-true, true-local}
 use Rattle.truesheet.specs.Fits.{MachineFits, MachinesFit, StartFits, FilledFits, NodeFits, NodesFit, ChainFits, ChainsFit, NamesFit}
-use Rattle.truesheet.proofs.Reading.{ReadRows, rowsOf-read, cost-outside, number-outside}
+use Rattle.sheet.proofs.Reading.{ReadRows, rowsOf-read, cost-outside, number-outside}
 
 -- every machine, every node, every chain of names fits (where the nodes do, a reached node with none before it is its machine's start)
 abbrev pub AllFit : Tree → List ℕ → Type 0

@@ -1,4 +1,3 @@
-pub mod Reading
 pub mod Fits
 pub mod Exits
 pub mod Machines

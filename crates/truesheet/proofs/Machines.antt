@@ -1,13 +1,13 @@
 -- What the tests of a machine's words decide, from the words that they look at. Assumes nothing.
 use mathlib.Core.Path.{_≡_, sym, subst, _∙_}
 use mathlib.Core.Logic.{inl, inr, ⊎-elim}
-use mathlib.Core.Bool.{Bool, true, false}
+use mathlib.Core.Bool.{Bool, true}
 use mathlib.Core.Option.{none, some}
 use mathlib.Core.List.{List}
 use Prim.Native.Nat.{ℕ, _≤_, _<_}
 use native.Mathlib.Omega.{arith}
 use lib.Dec.{eqb}
-use borrow.Author.Tests.{eq-eqb, ne-eqb, eqb-true}
+use borrow.Author.Tests.{eqb-true}
 use Rattle.definitions.specs.Limits.{machines, nodes, commands, absent, blank}
 use Rattle.definitions.specs.Tree.{Tree, Sound, parent}
 use Rattle.definitions.specs.Step.{counting}
@@ -15,23 +15,14 @@ use Rattle.definitions.specs.Book.{word, transitionWord}
 use Rattle.definitions.specs.Sheet.{Rows, costWord, rowsOf}
 use Rattle.definitions.specs.Truth.{BlankMachine, Ended}
 use Rattle.definitions.proofs.Options.{bind-some, none-some, some-same, true-false}
-use Rattle.definitions.proofs.Words.{present-word, owner-range, holder-range, no-holder, no-start, no-transition}
+use Rattle.definitions.proofs.Words.{present-word, owner-range, holder-range, no-holder, no-start}
 use Rattle.sheet.specs.Fields.{Mark}
 use Rattle.book.specs.Decides.{Decides}
+use Rattle.book.proofs.Counts.{no-counting, counting-blank}
 use Rattle.book.proofs.Decide.{decides-same, decides-equal}
-use Rattle.wellformed.proofs.Reading.{said-is, unsaid-is, unsaid}
+use Rattle.book.proofs.Said.{said-is, unsaid-is, unsaid}
 use Rattle.truesheet.specs.Fits.{AddsUp, BlankExit, ExitFits, ExitsFit, AboveStale, MachineFits}
-use Rattle.truesheet.proofs.Reading.{ReadRows, cost-is, blank-is, cost-said, cost-unsaid}
-
--- the word for no transition says that none counts
-pub no-counting : {t : Tree} → Sound t → (n x : ℕ) {w : ℕ} → w ≡ transitionWord (counting t n x) → w ≡ blank → counting t n x ≡ none
-unfolding counting
-no-counting {t} s n x e z = no-transition t s n x e z
-
--- where none counts the word is blank
-counting-blank : (t : Tree) (n x : ℕ) {w : ℕ} → w ≡ transitionWord (counting t n x) → counting t n x ≡ none → w ≡ blank
-unfolding transitionWord
-counting-blank t n x e free = rw free at e
+use Rattle.sheet.proofs.Reading.{ReadRows, is-stale, is-filled, cost-is, blank-is, cost-said, cost-unsaid}
 
 -- ---- the last node of an exit
 
@@ -121,13 +112,6 @@ pub blank-exits : {r : Rows} {m : ℕ} → BlankMachine r m → (x : ℕ) → x 
 blank-exits b x range = (b .exit x range, b .last x range)
 
 -- ---- the machine above
-
--- what a mark says
-pub is-stale : {ws : List ℕ} {m w : ℕ} → Mark ws m w → w ≡ 1 → rowsOf ws .stale m ≡ true
-is-stale {w = w} mark one = mark .says ∙ eq-eqb w 1 one
-
-pub is-filled : {ws : List ℕ} {m w : ℕ} → Mark ws m w → (w ≡ 1 → ⊥) → rowsOf ws .stale m ≡ false
-is-filled {w = w} mark other = mark .says ∙ ne-eqb w 1 other
 
 module _ {t : Tree} (s : Sound t) (m : ℕ) {h : ℕ} (holder : h ≡ word (t .holder m)) where
   -- there is none above a machine that no node holds

@@ -13,19 +13,19 @@ use Rattle.definitions.specs.Book.{word, transitionWord}
 use Rattle.definitions.specs.Sheet.{Rows, costWord, costOf, rowsOf}
 use Rattle.definitions.specs.Truth.{nodeExit, move, BlankNode, Named}
 use Rattle.definitions.proofs.Options.{none-some, some-same, true-false}
-use Rattle.definitions.proofs.Words.{present-word, owner-range, target-range, no-owner, some-transition}
+use Rattle.definitions.proofs.Words.{present-word, owner-range, no-owner}
 use Rattle.definitions.proofs.Local.{move-by, move-parts}
 use Rattle.sheet.specs.Fields.{Mark}
 use Rattle.book.specs.Decides.{Decides}
+use Rattle.book.proofs.Counts.{no-counting, some-counting, counting-node}
 use Rattle.book.proofs.Decide.{decides-same, decides-equal}
-use Rattle.wellformed.proofs.Reading.{said-is, unsaid-is, unsaid}
-use Rattle.truesheet.specs.declared.OwnExit.{OwnExit}
-use Rattle.truesheet.specs.declared.OwnExit.the-variants.{Costs, Never}
-use Rattle.truesheet.specs.Meaning.{Exits}
+use Rattle.book.proofs.Said.{said-is, unsaid-is, unsaid}
+use Rattle.sheet.specs.declared.OwnExit.{OwnExit}
+use Rattle.sheet.specs.declared.OwnExit.the-variants.{Costs, Never}
+use Rattle.sheet.specs.Exits.{Exits}
 use Rattle.truesheet.specs.Fits.{AtMost, AddsUp, StartFits, RelaxedBy, RelaxedAt, FilledFits, NodeFits}
-use Rattle.truesheet.proofs.Reading.{ReadRows, cost-back, cost-is, blank-is, cost-said, cost-unsaid}
-use Rattle.truesheet.proofs.Exits.{exits-none, exits-some}
-use Rattle.truesheet.proofs.Machines.{no-counting, is-stale, is-filled}
+use Rattle.sheet.proofs.Reading.{ReadRows, is-stale, is-filled, cost-back, cost-is, blank-is, cost-said, cost-unsaid}
+use Rattle.sheet.proofs.Exits.{exits-none, exits-some}
 
 -- ---- rows with no names
 
@@ -67,19 +67,6 @@ module _ {r : Rows} (read : ReadRows r) (n : ℕ) {c : ℕ} (cost : c ≡ costWo
             by = unsaid (read .by n) by a;
           })
           (λ fits. unsaid-is by (fits .by))
-
--- ---- transitions
-
--- a word that is not blank says a transition that counts
-pub some-counting : {t : Tree} → Sound t → (n x : ℕ) {w : ℕ} → w ≡ transitionWord (counting t n x) → (w ≡ blank → ⊥)
-    → counting t n x ≡ some (record { target = w / costs; cost = w % costs })
-unfolding counting
-some-counting {t} s n x e other = some-transition t s n x e other
-
--- whose target is a node
-counting-node : {t : Tree} → Sound t → (n x : ℕ) {w : ℕ} → w ≡ transitionWord (counting t n x) → (w ≡ blank → ⊥) → w / costs < nodes
-unfolding counting
-counting-node {t} s n x e other = target-range t s n x _ (some-counting s n x e other) .1
 
 -- ---- the names of a node
 

@@ -11,18 +11,12 @@ use Rattle.definitions.specs.Basics.{iterate}
 use Rattle.definitions.specs.Limits.{machines, nodes, commands, sheetLength, longestChain}
 use Rattle.definitions.specs.Tree.{Tree, parent}
 use Rattle.definitions.specs.Step.{counting, Arrival}
-use Rattle.definitions.specs.Book.{WellFormed}
 use Rattle.definitions.specs.Sheet.{Rows, machineRowWord, rowsOf}
 use Rattle.definitions.specs.Truth.{nodeExit, move, BlankMachine, BlankNode, Named, Ended}
 
 -- o is there and is no more than k
 abbrev pub AtMost : Option ℕ → ℕ → Type 0
 AtMost o k = (d : ℕ) × (o ≡ some d) × (d ≤ k)
-
--- a book that is well formed, and a list with as many words as a sheet has
-pub record Holding (book sheet : List ℕ) : Type 0 where
-  pub well-formed : WellFormed book
-  pub long : length sheet ≡ sheetLength
 
 -- the cost of node u, its own exit cost for x and w together are c
 pub record AddsUp (t : Tree) (r : Rows) (u x w c : ℕ) : Type 0 where

@@ -3,58 +3,23 @@
 ghost use mathlib.Core.Path.{_≡_};
 ghost use Prim.Native.Nat.{_≤_, _<_};
 ghost use lib.ListN.{length, getD};
-ghost use Rattle.definitions.specs.Limits.{machines, nodes, commands, bookLength, sheetLength, longestChain};
-ghost use Rattle.definitions.specs.Step.{counting};
-ghost use Rattle.definitions.specs.Book.{transitionWord, treeOf, WellFormed};
+ghost use Rattle.definitions.specs.Limits.{machines, nodes, commands, sheetLength, longestChain};
+ghost use Rattle.definitions.specs.Book.{treeOf, WellFormed};
 ghost use Rattle.definitions.specs.Sheet.{costOf, rowsOf};
-ghost use Rattle.definitions.specs.Truth.{nodeExit, BlankMachine, BlankNode, Named, Ended, TrueSheet};
+ghost use Rattle.definitions.specs.Truth.{BlankMachine, BlankNode, Named, Ended, TrueSheet};
 ghost use Rattle.book.specs.Decides.{Decides};
-ghost use Rattle.truesheet.specs.Meaning.{exitLimit, Exits};
-ghost use Rattle.truesheet.specs.Fits.{AtMost, Holding, AddsUp, BlankExit, ExitFits, ExitsFit, AboveStale, MachineFits, MachinesFit};
+ghost use Rattle.sheet.specs.Exits.{Readable};
+ghost use Rattle.truesheet.specs.Fits.{AtMost, AddsUp, BlankExit, ExitFits, ExitsFit, AboveStale, MachineFits, MachinesFit};
 ghost use Rattle.truesheet.specs.Fits.{StartFits, RelaxedBy, RelaxedAt, FilledFits, NodeFits, NodesFit};
 ghost use Rattle.truesheet.specs.Fits.{Chained, ChainsFit, Steps, Follows, Counted};
+use sheet::OwnExit;
+use sheet::wide;
 
 // The most steps by names from a node to its machine's start.
 const STEPS: u32 = 255;
 
 // The count of steps of a node that is not counted yet.
 const UNCOUNTED: u32 = 65535;
-
-// A node's own exit cost for a command, or that no list leaves it by that command.
-pub enum OwnExit {
-    Costs(u64),
-    Never,
-}
-
-// The number in 64 bits.
-fn wide(x: u32) -> u64
-    ensures { λ r. ⌜ (r ≡ x) × (r < exitLimit) ⌝ }
-{
-    x as u64
-}
-
-// The transition of node n that counts for command x: target and cost in one word.
-pub fn counting(book: &[u32], n: u32, x: u32) -> u32
-    requires { ⌜ (length (now book) ≡ bookLength) × (n < nodes) × (x < commands) ⌝ }
-    ensures { λ r. ⌜ r ≡ transitionWord (counting (treeOf (now (book .entry))) n x) ⌝ }
-{
-    book::transition(book, n, x)
-}
-
-// The own exit cost of node n for command x: 0 for a plain node, and for a refined one what the sheet says of the machine below it. Whether n is
-// plain cannot be foreseen: a word is read in either case, so that no jump is needed.
-pub fn own_exit(book: &[u32], sheet: &[u32], n: u32, x: u32) -> OwnExit
-    requires { ⌜ Holding (now book) (now sheet) × (n < nodes) × (x < commands) ⌝ }
-    ensures { λ r. ⌜ Exits (nodeExit (treeOf (now (book .entry))) (rowsOf (now (sheet .entry))) n x) r ⌝ }
-{
-    let b = book::below(book, n);
-    let e = sheet::exit(sheet, b % book::MACHINES, x);
-    let own = if b == book::ABSENT { 0 } else { e };
-    if own == book::BLANK {
-        return OwnExit::Never;
-    }
-    OwnExit::Costs(wide(own))
-}
 
 // Whether the cost that word c says is there and is at most k.
 fn at_most(c: u32, k: u64) -> bool
@@ -68,14 +33,14 @@ fn at_most(c: u32, k: u64) -> bool
 
 // Whether the cost of node u, its own exit cost for x and w together are c.
 fn adds_up(book: &[u32], sheet: &[u32], u: u32, x: u32, w: u32, c: u32) -> bool
-    requires { ⌜ Holding (now book) (now sheet) × (u < nodes) × (x < commands) ⌝ }
+    requires { ⌜ Readable (now book) (now sheet) × (u < nodes) × (x < commands) ⌝ }
     ensures { λ r. ⌜ Decides r (AddsUp (treeOf (now (book .entry))) (rowsOf (now (sheet .entry))) u x w c) ⌝ }
 {
     let d = sheet::cost(sheet, u);
     if d == book::BLANK {
         return false;
     }
-    let OwnExit::Costs(e) = own_exit(book, sheet, u, x) else {
+    let OwnExit::Costs(e) = sheet::own_exit(book, sheet, u, x) else {
         return false;
     };
     wide(d) + e + wide(w) == wide(c)
@@ -83,7 +48,7 @@ fn adds_up(book: &[u32], sheet: &[u32], u: u32, x: u32, w: u32, c: u32) -> bool
 
 // Whether exit cost c of machine m for command x has its last node.
 fn ended(book: &[u32], sheet: &[u32], m: u32, x: u32, c: u32) -> bool
-    requires { ⌜ Holding (now book) (now sheet) × (m < machines) × (x < commands) ⌝ }
+    requires { ⌜ Readable (now book) (now sheet) × (m < machines) × (x < commands) ⌝ }
     ensures { λ r. ⌜ Decides r (Ended (treeOf (now (book .entry))) (rowsOf (now (sheet .entry))) m x c) ⌝ }
 {
     let u = sheet::last(sheet, m, x);
@@ -93,7 +58,7 @@ fn ended(book: &[u32], sheet: &[u32], m: u32, x: u32, c: u32) -> bool
     if book::owner(book, u) != m {
         return false;
     }
-    if counting(book, u, x) != book::BLANK {
+    if book::counting(book, u, x) != book::BLANK {
         return false;
     }
     adds_up(book, sheet, u, x, 0, c)
@@ -101,7 +66,7 @@ fn ended(book: &[u32], sheet: &[u32], m: u32, x: u32, c: u32) -> bool
 
 // Whether the exit cost and the last node of machine m for command x fit.
 fn exit_fits(book: &[u32], sheet: &[u32], m: u32, x: u32) -> bool
-    requires { ⌜ Holding (now book) (now sheet) × (m < machines) × (x < commands) ⌝ }
+    requires { ⌜ Readable (now book) (now sheet) × (m < machines) × (x < commands) ⌝ }
     ensures { λ r. ⌜ Decides r (ExitFits (treeOf (now (book .entry))) (rowsOf (now (sheet .entry))) m x) ⌝ }
 {
     let c = sheet::exit(sheet, m, x);
@@ -113,7 +78,7 @@ fn exit_fits(book: &[u32], sheet: &[u32], m: u32, x: u32) -> bool
 
 // Whether they fit for every command.
 fn exits_fit(book: &[u32], sheet: &[u32], m: u32) -> bool
-    requires { ⌜ Holding (now book) (now sheet) × (m < machines) ⌝ }
+    requires { ⌜ Readable (now book) (now sheet) × (m < machines) ⌝ }
     ensures { λ r. ⌜ Decides r (ExitsFit (treeOf (now (book .entry))) (rowsOf (now (sheet .entry))) m) ⌝ }
 {
     for x in 0..book::COMMANDS {
@@ -150,7 +115,7 @@ fn machine_blank(sheet: &[u32], m: u32) -> bool
 
 // Whether the machine above machine m, where there is one, is stale.
 fn above_stale(book: &[u32], sheet: &[u32], m: u32) -> bool
-    requires { ⌜ Holding (now book) (now sheet) × (m < machines) ⌝ }
+    requires { ⌜ Readable (now book) (now sheet) × (m < machines) ⌝ }
     ensures { λ r. ⌜ Decides r (AboveStale (treeOf (now (book .entry))) (rowsOf (now (sheet .entry))) m) ⌝ }
 {
     let h = book::holder(book, m);
@@ -162,7 +127,7 @@ fn above_stale(book: &[u32], sheet: &[u32], m: u32) -> bool
 
 // Whether the words of machine m fit.
 fn machine_fits(book: &[u32], sheet: &[u32], m: u32) -> bool
-    requires { ⌜ Holding (now book) (now sheet) × (m < machines) ⌝ }
+    requires { ⌜ Readable (now book) (now sheet) × (m < machines) ⌝ }
     ensures { λ r. ⌜ Decides r (MachineFits (treeOf (now (book .entry))) (now (sheet .entry)) m) ⌝ }
 {
     let mark = sheet::stale(sheet, m);
@@ -186,7 +151,7 @@ fn machine_fits(book: &[u32], sheet: &[u32], m: u32) -> bool
 
 // Whether the words of every machine fit.
 fn machines_fit(book: &[u32], sheet: &[u32]) -> bool
-    requires { ⌜ Holding (now book) (now sheet) ⌝ }
+    requires { ⌜ Readable (now book) (now sheet) ⌝ }
     ensures { λ r. ⌜ Decides r (MachinesFit (treeOf (now (book .entry))) (now (sheet .entry))) ⌝ }
 {
     for m in 0..book::MACHINES {
@@ -227,7 +192,7 @@ fn start_fits(sheet: &[u32], n: u32) -> bool
 
 // Whether node n of machine m names a transition of m that gives it cost c.
 fn named(book: &[u32], sheet: &[u32], m: u32, n: u32, c: u32) -> bool
-    requires { ⌜ Holding (now book) (now sheet) × (m < machines) × (n < nodes) ⌝ }
+    requires { ⌜ Readable (now book) (now sheet) × (m < machines) × (n < nodes) ⌝ }
     ensures { λ r. ⌜ Decides r (Named (treeOf (now (book .entry))) (rowsOf (now (sheet .entry))) m n c) ⌝ }
 {
     let u = sheet::before(sheet, n);
@@ -241,7 +206,7 @@ fn named(book: &[u32], sheet: &[u32], m: u32, n: u32, c: u32) -> bool
     if book::owner(book, u) != m {
         return false;
     }
-    let w = counting(book, u, x);
+    let w = book::counting(book, u, x);
     if w == book::BLANK {
         return false;
     }
@@ -254,10 +219,10 @@ fn named(book: &[u32], sheet: &[u32], m: u32, n: u32, c: u32) -> bool
 // Whether leaving node n of machine m, reached at cost c, by command x costs no less than what stands where it leads. Whether n has a
 // transition cannot be foreseen: both words are read, so that no jump is needed.
 fn relaxed_by(book: &[u32], sheet: &[u32], m: u32, n: u32, c: u32, x: u32) -> bool
-    requires { ⌜ Holding (now book) (now sheet) × (m < machines) × (n < nodes) × (x < commands) ⌝ }
+    requires { ⌜ Readable (now book) (now sheet) × (m < machines) × (n < nodes) × (x < commands) ⌝ }
     ensures { λ r. ⌜ Decides r (RelaxedBy (treeOf (now (book .entry))) (rowsOf (now (sheet .entry))) m n c x) ⌝ }
 {
-    let w = counting(book, n, x);
+    let w = book::counting(book, n, x);
     let cost = sheet::cost(sheet, w / 65536 % book::NODES);
     let mut least = sheet::exit(sheet, m, x);
     let mut price = 0;
@@ -265,7 +230,7 @@ fn relaxed_by(book: &[u32], sheet: &[u32], m: u32, n: u32, c: u32, x: u32) -> bo
         least = cost;
         price = w % 65536;
     }
-    let OwnExit::Costs(e) = own_exit(book, sheet, n, x) else {
+    let OwnExit::Costs(e) = sheet::own_exit(book, sheet, n, x) else {
         return true;
     };
     at_most(least, wide(c) + e + wide(price))
@@ -273,7 +238,7 @@ fn relaxed_by(book: &[u32], sheet: &[u32], m: u32, n: u32, c: u32, x: u32) -> bo
 
 // Whether that is so by every command.
 fn relaxed_at(book: &[u32], sheet: &[u32], m: u32, n: u32, c: u32) -> bool
-    requires { ⌜ Holding (now book) (now sheet) × (m < machines) × (n < nodes) ⌝ }
+    requires { ⌜ Readable (now book) (now sheet) × (m < machines) × (n < nodes) ⌝ }
     ensures { λ r. ⌜ Decides r (RelaxedAt (treeOf (now (book .entry))) (rowsOf (now (sheet .entry))) m n c) ⌝ }
 {
     for x in 0..book::COMMANDS {
@@ -286,7 +251,7 @@ fn relaxed_at(book: &[u32], sheet: &[u32], m: u32, n: u32, c: u32) -> bool
 
 // Whether the row of node n of machine m, which is in use and not stale, fits.
 fn filled_fits(book: &[u32], sheet: &[u32], m: u32, n: u32) -> bool
-    requires { ⌜ Holding (now book) (now sheet) × (m < machines) × (n < nodes) ⌝ }
+    requires { ⌜ Readable (now book) (now sheet) × (m < machines) × (n < nodes) ⌝ }
     ensures { λ r. ⌜ Decides r (FilledFits (treeOf (now (book .entry))) (rowsOf (now (sheet .entry))) m n) ⌝ }
 {
     if book::start(book, m) == n {
@@ -307,7 +272,7 @@ fn filled_fits(book: &[u32], sheet: &[u32], m: u32, n: u32) -> bool
 
 // Whether the row of node n fits.
 fn node_fits(book: &[u32], sheet: &[u32], n: u32) -> bool
-    requires { ⌜ Holding (now book) (now sheet) × (n < nodes) ⌝ }
+    requires { ⌜ Readable (now book) (now sheet) × (n < nodes) ⌝ }
     ensures { λ r. ⌜ Decides r (NodeFits (treeOf (now (book .entry))) (rowsOf (now (sheet .entry))) n) ⌝ }
 {
     let m = book::owner(book, n);
@@ -322,7 +287,7 @@ fn node_fits(book: &[u32], sheet: &[u32], n: u32) -> bool
 
 // Whether the row of every node fits.
 fn nodes_fit(book: &[u32], sheet: &[u32]) -> bool
-    requires { ⌜ Holding (now book) (now sheet) ⌝ }
+    requires { ⌜ Readable (now book) (now sheet) ⌝ }
     ensures { λ r. ⌜ Decides r (NodesFit (treeOf (now (book .entry))) (rowsOf (now (sheet .entry)))) ⌝ }
 {
     for n in 0..book::NODES {

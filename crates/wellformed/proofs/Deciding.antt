@@ -14,7 +14,8 @@ use Rattle.wellformed.specs.Fits.{Climbs, RootFits, StartFits, HolderFit
 use Rattle.wellformed.specs.Fits.{OwnerFits, BelowFits, TransitionFits}
 use Rattle.book.proofs.Decide.{decides-same, decides-if, decides-equal, decides-other}
 use Rattle.wellformed.proofs.Fits.{Read}
-use Rattle.wellformed.proofs.Reading.{said-is, unsaid-is, unsaid, said-all, unsaid-all, transition-said, transition-target}
+use Rattle.book.proofs.Said.{said-is, unsaid-is, unsaid, said-all, unsaid-all}
+use Rattle.wellformed.proofs.Reading.{transition-said, transition-target}
 
 module _ {t : Tree} (read : Read t) where
   -- whether a machine is in use

@@ -1,16 +1,13 @@
 -- A tree that is read out of words is sound exactly where its root fits and every machine and every node fits. Assumes nothing.
 use mathlib.Core.Path.{_≡_}
 use mathlib.Core.Logic.{_↔_}
-use mathlib.Core.Option.{Option, some}
+use mathlib.Core.Option.{some}
 use Prim.Native.Nat.{ℕ, _<_}
-use Rattle.definitions.specs.Limits.{machines, nodes, commands, costs, absent, blank}
+use Rattle.definitions.specs.Limits.{machines, nodes, commands, costs, blank}
 use Rattle.definitions.specs.Tree.{Tree, Transition, Sound}
 use Rattle.definitions.specs.Book.{transitionWord}
+use Rattle.book.proofs.Said.{Within}
 use Rattle.wellformed.specs.Fits.{RootFits, MachinesFit, NodesFit}
-
--- what is said of number i, if anything, is said under the limit, and never by the word for absent
-abbrev pub Within : ℕ → ℕ → Option ℕ → Type 0
-Within limit i o = (n : ℕ) → o ≡ some n → (i < limit) × (n ≡ absent → ⊥)
 
 -- a tree that is read out of words speaks so of machines, nodes and commands, and its costs are in range
 pub record Read (t : Tree) : Type 0 where

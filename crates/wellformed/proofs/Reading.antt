@@ -1,36 +1,17 @@
 -- What the words of a list tell of the tree that they hold, whatever they are. Assumes nothing.
-use mathlib.Core.Path.{_≡_, refl, sym, ap, subst, _∙_}
-use mathlib.Core.Bool.{Bool, true, false, cond}
+use mathlib.Core.Path.{_≡_, refl, sym, ap, _∙_}
 use mathlib.Core.Option.{Option, none, some}
 use mathlib.Core.List.{List}
 use Prim.Native.Nat.{ℕ, _+_, _*_, _/_, _%_, _≤_, _<_}
 use native.Mathlib.Omega.{arith}
-use lib.Dec.{eqb}
-use borrow.Author.Tests.{eqb-false}
 use Rattle.definitions.specs.Basics.{_>>=_}
-use Rattle.definitions.specs.Limits.{machines, nodes, commands, costs, absent, blank}
+use Rattle.definitions.specs.Limits.{machines, nodes, commands, costs, blank}
 use Rattle.definitions.specs.Tree.{Tree, Transition, parent}
-use Rattle.definitions.specs.Book.{word, transitionWord, number, transitionOf, under, machineWord, nodeWord, treeOf}
-use Rattle.definitions.proofs.Options.{bind-some, none-some, some-same}
-use Rattle.definitions.proofs.Lists.{no-value}
+use Rattle.definitions.specs.Book.{word, transitionWord, transitionOf, under, machineWord, nodeWord, treeOf}
+use Rattle.definitions.proofs.Options.{bind-some}
 use Rattle.definitions.proofs.Words.{under-some}
-use Rattle.wellformed.proofs.Fits.{Within, Read}
-
--- what is told unless a word is z, is told where the word is not z
-pub told : {A : Type 0} (w z : ℕ) (v : A) {a : A} → cond (eqb w z) none (some v) ≡ some a → (v ≡ a) × (w ≡ z → ⊥)
-told {A} w z v {a} = go (eqb w z) refl
-  where
-    go : (b : Bool) → eqb w z ≡ b → cond b none (some v) ≡ some a → (v ≡ a) × (w ≡ z → ⊥)
-    go true e f = absurd (none-some refl f)
-    go false e f = (some-same refl f, eqb-false w z e)
-
--- a number read under a limit
-pub number-read : (limit i w : ℕ) {n : ℕ} → under limit i (number w) ≡ some n → (i < limit) × (n ≡ absent → ⊥)
-unfolding number
-number-read limit i w e =
-    let (l, f) = under-some limit i (number w) e in
-    let (same, other) = told w absent w f in
-    (l, λ z. other (same ∙ z))
+use Rattle.book.proofs.Said.{Within, told, number-read, said-is, unsaid-is, outside}
+use Rattle.wellformed.proofs.Fits.{Read}
 
 -- a transition
 transition-read : (w : ℕ) (a : Transition) → transitionOf w ≡ some a → (a .cost < costs) × (transitionWord (some a) ≡ blank → ⊥)
@@ -57,37 +38,6 @@ treeOf-read ws =
           let (cost, other) = transition-read (nodeWord ws n (2 + x)) a g in
           (hn, hx, cost, other);
     }
-
--- ---- a word v that is the word of what o says
-
--- a number that is said is the word
-pub said-is : {v n : ℕ} (o : Option ℕ) → v ≡ word o → o ≡ some n → v ≡ n
-unfolding word
-said-is none e f = absurd (none-some refl f)
-said-is (some k) e f = e ∙ some-same refl f
-
--- where nothing is said the word is absent
-pub unsaid-is : {v : ℕ} {o : Option ℕ} → v ≡ word o → o ≡ none → v ≡ absent
-unfolding word
-unsaid-is e f = e ∙ ap word f
-
--- where the word is absent nothing is said
-pub unsaid : {v : ℕ} {limit i : ℕ} {o : Option ℕ} → Within limit i o → v ≡ word o → v ≡ absent → o ≡ none
-unsaid {o = o} w e z = no-value o (λ n f. w n f .1 (sym (said-is o e f) ∙ z))
-
--- so a statement of the word is one of every number that is said
-pub said-all : (P : ℕ → Type 0) (o : Option ℕ) {v : ℕ} → v ≡ word o → P v → (n : ℕ) → o ≡ some n → P n
-said-all P o e p n f = subst P (said-is o e f) p
-
--- of which there is none where the word is absent
-pub unsaid-all : {limit i : ℕ} {o : Option ℕ} {v : ℕ} → Within limit i o → v ≡ word o → v ≡ absent → (n : ℕ) → o ≡ some n → ⊥
-unsaid-all w e z n f = none-some (unsaid w e z) f
-
--- nothing is said of a number past the limit
-pub outside : {limit i : ℕ} (o : Option ℕ) → Within limit i o → limit ≤ i → absent ≡ word o
-unfolding word
-outside none w past = refl
-outside (some n) w past = absurd (omega (arith, w n refl .0))
 
 -- ---- the machine just above a machine
 

@@ -1,10 +1,8 @@
--- What the functions of this crate leave: bytes stored in a row, and the level of every node in use. The parts of `written`, by their names. What an
--- answer means.
+-- What the functions of this crate leave: the level of every node in use. The parts of `written`, by their names. What an answer means.
 use mathlib.Core.Path.{_≡_}
 use mathlib.Core.List.{List, [], _∷_, _++_}
 use Prim.Native.Nat.{ℕ, suc, _+_, _<_}
 use lib.ListN.{length, getD}
-use lib.Seq.{sets}
 use Rattle.definitions.specs.Basics.{joined}
 use Rattle.definitions.specs.Limits.{nodes, commands}
 use Rattle.definitions.specs.Tree.{Tree, UsedNode, level}
@@ -12,11 +10,6 @@ use Rattle.definitions.specs.Answer.{Answer, gives, refuses}
 use Rattle.definitions.specs.Write.{writtenAdd, writtenRefine, writtenArrow}
 use Rattle.writing.specs.declared.WriteAnswer.{WriteAnswer}
 use Rattle.writing.specs.declared.WriteAnswer.the-variants.{Written, Refused}
-
--- bytes are stored one after the other from a place on, as far as the list goes, and nothing else is touched; end is the place after them
-pub record Stored (out : List ℕ) (at : ℕ) (bytes : List ℕ) (end : ℕ) (out′ : List ℕ) : Type 0 where
-  pub place : end ≡ at + length bytes
-  pub list : out′ ≡ sets out at bytes
 
 -- a list with room for every node that holds the levels of the first k, as far as they are in use
 pub record Levels (t : Tree) (k : ℕ) (list : List ℕ) : Type 0 where

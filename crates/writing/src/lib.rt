@@ -1,6 +1,6 @@
 // The stream that Write gives for the tree of a well-formed book (document 01, "Writing, choosing, the session").
 ghost use mathlib.Core.Path.{_≡_};
-ghost use mathlib.Core.List.{[], _∷_, _++_};
+ghost use mathlib.Core.List.{_∷_, _++_};
 ghost use Prim.Native.Nat.{_+_, _*_, _/_, _%_, _^_, _≤_, _<_};
 ghost use lib.ListN.{length, drop};
 ghost use Rattle.definitions.specs.Basics.{joined};
@@ -9,7 +9,10 @@ ghost use Rattle.definitions.specs.Tree.{UsedNode, level};
 ghost use Rattle.definitions.specs.Book.{treeOf, WellFormed};
 ghost use Rattle.definitions.specs.Write.{pair, writtenAdd, writtenRefine, writtenArrow, written, WriteSays};
 ghost use Rattle.book.specs.Decides.{Decides};
-ghost use Rattle.writing.specs.Meaning.{Stored, Levels, writtenLevel, writtenArrows, answerOf};
+ghost use Rattle.storing.specs.Stored.{Stored};
+ghost use Rattle.writing.specs.Meaning.{Levels, writtenLevel, writtenArrows, answerOf};
+use storing::put_byte;
+use storing::put_pair;
 
 // What Write answers: the length of the stream, or the number of a refusal.
 pub enum WriteAnswer {
@@ -48,28 +51,7 @@ fn node_levels(book: &[u32]) -> [u32; 256]
     list
 }
 
-// Stores a byte at a place, if the list goes so far; the next place.
-pub fn put_byte(out: &mut [u8], at: usize, b: u32) -> usize
-    requires { ⌜ (at + 1 < 2 ^ 64) × (b < 256) ⌝ }
-    ensures { λ r. ⌜ Stored (now (out .entry)) at (b ∷ []) r (now (out .exit)) ⌝ }
-{
-    if out.len() <= at {
-        return at + 1;
-    }
-    out[at] = b as u8;
-    at + 1
-}
-
-// The same for a number's two bytes, high byte first.
-fn put_pair(out: &mut [u8], at: usize, n: u32) -> usize
-    requires { ⌜ (at + 2 < 2 ^ 64) × (n < 65536) ⌝ }
-    ensures { λ r. ⌜ Stored (now (out .entry)) at (pair n) r (now (out .exit)) ⌝ }
-{
-    let low = put_byte(out, at, n / 256);
-    put_byte(out, low, n % 256)
-}
-
-// The same for begin and for add: opcode, machine, node.
+// Stores begin or add at a place, as far as the list goes; the next place. Opcode, machine, node.
 fn put_place(out: &mut [u8], at: usize, op: u32, m: u32, n: u32) -> usize
     requires { ⌜ (at + 4 < 2 ^ 64) × (op < 256) × (m < machines) × (n < nodes) ⌝ }
     ensures { λ r. ⌜ Stored (now (out .entry)) at (op ∷ m ∷ pair n) r (now (out .exit)) ⌝ }

@@ -4,7 +4,7 @@ use Prim.Native.Nat.{_-_, _≤_}
 use native.Mathlib.Omega.{arith}
 use denote.Ref.{now}
 use Rattle.definitions.specs.Limits.{machines}
-use Rattle.marking.specs.Chosen.{chosen, upTo}
+use Rattle.book.specs.Chosen.{chosen, upTo}
 use Rattle.clearing.specs.Gone.{MachinesGone}
 use Rattle.clearing.proofs.Laws.{left-sized, machines-none, machines-more, machines-end}
 use Rattle.clearing.proofs.clear_machines.Statement.{statement}

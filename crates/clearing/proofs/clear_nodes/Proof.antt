@@ -4,7 +4,7 @@ use Prim.Native.Nat.{_-_, _≤_}
 use native.Mathlib.Omega.{arith}
 use denote.Ref.{now}
 use Rattle.definitions.specs.Limits.{nodes}
-use Rattle.marking.specs.Chosen.{chosen, upTo}
+use Rattle.book.specs.Chosen.{chosen, upTo}
 use Rattle.clearing.specs.Gone.{NodesGone}
 use Rattle.clearing.proofs.Laws.{left-sized, nodes-none, nodes-more, nodes-end}
 use Rattle.clearing.proofs.clear_nodes.Statement.{statement}

@@ -2,7 +2,7 @@
 use borrow.Author.Tests.{eq-eqb, ne-eqb}
 use denote.Ref.{now}
 use lib.ListN.{getD}
-use Rattle.marking.specs.Chosen.{chosen}
+use Rattle.book.specs.Chosen.{chosen}
 use Rattle.clearing.proofs.Laws.{machine-stays, machine-goes}
 use borrow.Author.Needs.{needs}
 use Rattle.clearing.proofs.drop_machine_if.Statement.{statement}

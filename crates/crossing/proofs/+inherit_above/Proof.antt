@@ -9,7 +9,7 @@ use borrow.Fn.PlainCycle.{Measures, is, falls, and}
 use Rattle.definitions.specs.Tree.{level}
 use Rattle.definitions.specs.Book.{treeOf}
 use Rattle.stepping.proofs.Laws.{used-range, owner-told}
-use Rattle.crossing.proofs.Upward.{held, used-holder, higher}
+use Rattle.stepping.proofs.Upward.{held, used-holder, higher}
 use Rattle.crossing.proofs.Inheriting.{handed-root, handed-row, handed-on}
 use Rattle.crossing.proofs.inherit_above.Reads as inherit-above
 use Rattle.crossing.proofs.inherit_above.Kinds as inherit-above-kinds

@@ -2,7 +2,7 @@
 use mathlib.Core.Path.{refl}
 use native.Mathlib.Omega.{arith}
 use borrow.Author.Needs.{needs}
-use Rattle.crossing.proofs.Tabling.{blank-tables}
+use Rattle.search.proofs.Tables.{blank-tables}
 use Rattle.crossing.proofs.Searched.{cross-ready, cross-done}
 use Rattle.crossing.proofs.cross.Statement.{statement}
 use Rattle.crossing.proofs.cross.Tie as tie

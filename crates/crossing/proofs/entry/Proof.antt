@@ -5,7 +5,8 @@ use denote.Ref.{now}
 use borrow.Author.Needs.{needs}
 use Rattle.definitions.specs.Book.{treeOf}
 use Rattle.definitions.specs.Sheet.{rowsOf}
-use Rattle.crossing.proofs.Tabling.{finds-node, move-parts, place-target, place-price, entry-stored}
+use Rattle.search.proofs.Tables.{place-target, place-price, entry-stored}
+use Rattle.crossing.proofs.Tabling.{finds-node, move-parts}
 use Rattle.crossing.proofs.entry.Statement.{statement}
 use Rattle.crossing.proofs.entry.Tie as tie
 
@@ -64,7 +65,7 @@ returns c =
     let left = c .before in
     let e = c .before .before .before .before .before .before .before .before .before in
     let a = e .args in
-    entry-stored (e .pre .6) (e .pre .0 .well-formed .sound .node-range (a .n) (a .m) (e .pre .3)) (e .pre .4) _ _
+    entry-stored (e .pre .6) (e .pre .0 .well-formed .sound .node-range (a .n) (a .m) (e .pre .3)) (e .pre .4) refl _ _
     (c .priced .ensures
     ∙ move-parts (treeOf (now (a .book))) (rowsOf (now (a .sheet))) (now (a .lands)) (a .n) (a .x) (left .own-exit .ensures .is)
     (left .before .find .ensures))

@@ -10,10 +10,10 @@ use Rattle.crossing.proofs.Inheriting.{find-first}
 use Rattle.crossing.proofs.find.Statement.{statement}
 use Rattle.crossing.proofs.find.Tie as tie
 
-transition-requires : tie.Need-transition-requires
-transition-requires c κs =
+counting-requires : tie.Need-counting-requires
+counting-requires c κs =
     let e = c .before .before .before in
-    (e .pre .0 .length, owner-range (treeOf (now (e .args .book))) (e .pre .0 .sound) (e .args .n) (e .args .m) (e .pre .3) .0, e .pre .4)
+    (e .pre .0, owner-range (treeOf (now (e .args .book))) (e .pre .0 .sound) (e .args .n) (e .args .m) (e .pre .3) .0, e .pre .4)
 
 cast-own : tie.Need-cast-own
 cast-own c = search needs
@@ -25,10 +25,10 @@ shared-slice-read-own : tie.Need-shared-slice-read-own
 shared-slice-read-own c = search needs
 
 mul-own-2 : tie.Need-mul-own-2
-mul-own-2 c = omega (arith, c .before .before .before .before .before .pre .1 .inside (c .before .transition .result / 65536 % 256) (omega arith))
+mul-own-2 c = omega (arith, c .before .before .before .before .before .pre .1 .inside (c .before .counting .result / 65536 % 256) (omega arith))
 
 add-own : tie.Need-add-own
-add-own c = omega (arith, c .before .before .before .before .before .pre .1 .inside (c .before .transition .result / 65536 % 256) (omega arith))
+add-own c = omega (arith, c .before .before .before .before .before .pre .1 .inside (c .before .counting .result / 65536 % 256) (omega arith))
 
 mul-inherited : tie.Need-mul-inherited
 mul-inherited c =
@@ -62,14 +62,14 @@ unless-none-requires c κs = search needs
 returns : tie.Need-returns
 returns c =
     let e = c .before .before .before .before .before .before .before in
-    find-first (now (e .args .book)) (e .pre .0) (now (e .args .lands)) (e .args .n) (e .args .x) (e .pre .3) (c .before .before .before .transition .ensures) (e .pre .1) _
+    find-first (now (e .args .book)) (e .pre .0) (now (e .args .lands)) (e .args .n) (e .args .x) (e .pre .3) (c .before .before .before .counting .ensures) (e .pre .1) _
     (e .pre .5 (e .args .x) (e .pre .4)) (c .unless-none .ensures)
 
 pub find-spec : {M : Type 1} → statement M
 find-spec =
     tie.close
     (tie.spec
-    transition-requires
+    counting-requires
     cast-own
     mul-own
     shared-slice-read-own

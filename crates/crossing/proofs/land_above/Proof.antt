@@ -6,8 +6,8 @@ use denote.Ref.{now}
 use Rattle.definitions.specs.Tree.{level}
 use Rattle.definitions.specs.Book.{treeOf}
 use Rattle.stepping.proofs.Laws.{used-range, owner-told}
+use Rattle.stepping.proofs.Upward.{used-holder, higher}
 use Rattle.crossing.specs.Parts.{isOpen}
-use Rattle.crossing.proofs.Upward.{used-holder, higher}
 use Rattle.crossing.proofs.Landing.{LandingWalk, landing-starts, landing-ends, landing-on}
 use Rattle.crossing.proofs.land_above.Statement.{statement}
 use Rattle.crossing.proofs.land_above.Tie as tie

@@ -6,7 +6,7 @@ use lib.ListN.{length-set}
 use denote.Ref.{now}
 use Rattle.definitions.specs.Tree.{level}
 use Rattle.definitions.specs.Book.{treeOf}
-use Rattle.crossing.proofs.Upward.{higher}
+use Rattle.stepping.proofs.Upward.{higher}
 use Rattle.crossing.proofs.Opening.{Walking, walk-starts, hand-range, machine-range, machine-room, walk-ends, walk-on}
 use Rattle.crossing.proofs.open_above.Statement.{statement}
 use Rattle.crossing.proofs.open_above.Tie as tie

@@ -2,7 +2,7 @@
 use native.Mathlib.Omega.{arith}
 use borrow.Author.Needs.{needs}
 use Rattle.definitions.specs.Book.{transitionOf}
-use Rattle.truesheet.proofs.Exits.{exits-none, exits-some}
+use Rattle.sheet.proofs.Exits.{exits-none, exits-some}
 use Rattle.crossing.proofs.Tabling.{priced-costs, priced-never}
 use Rattle.crossing.proofs.priced.Statement.{statement}
 use Rattle.crossing.proofs.priced.Tie as tie

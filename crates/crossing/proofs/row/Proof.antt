@@ -6,9 +6,9 @@ use denote.Ref.{now}
 use Rattle.definitions.specs.Limits.{commands}
 use Rattle.definitions.specs.Book.{treeOf}
 use Rattle.definitions.specs.Sheet.{rowsOf}
+use Rattle.search.proofs.Tables.{RowTo, row-starts, row-more, row-ends}
 use Rattle.stepping.proofs.Laws.{used-range, owner-told}
 use Rattle.crossing.specs.Parts.{landMove}
-use Rattle.crossing.proofs.Tabling.{RowTo, row-starts, row-more, row-ends}
 use Rattle.crossing.proofs.row.Statement.{statement}
 use Rattle.crossing.proofs.row.Tie as tie
 

@@ -6,8 +6,8 @@ use denote.Ref.{now}
 use Rattle.definitions.specs.Limits.{nodes}
 use Rattle.definitions.specs.Book.{treeOf}
 use Rattle.definitions.specs.Sheet.{rowsOf}
+use Rattle.search.proofs.Tables.{TabledTo, tables-start, tables-more, tables-end}
 use Rattle.crossing.specs.Parts.{isOpen, openMove}
-use Rattle.crossing.proofs.Tabling.{TabledTo, tables-start, tables-more, tables-end}
 use Rattle.crossing.proofs.rows.Statement.{statement}
 use Rattle.crossing.proofs.rows.Tie as tie
 

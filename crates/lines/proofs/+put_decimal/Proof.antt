@@ -4,14 +4,14 @@ use mathlib.Core.Path.{sym}
 use Prim.Native.Nat.{ℕ, _/_, _<_}
 use native.Mathlib.Omega.{arith}
 use borrow.Author.Needs.{needs}
-use Rattle.writing.proofs.Laws.{stored-is, stored-then}
+use Rattle.storing.proofs.Laws.{stored-is, stored-then}
 use Rattle.lines.proofs.Digits.{decimal-one, decimal-on, decimal-short}
 use borrow.Fn.Kinds.{In}
 use borrow.Fn.PlainCycle.{Measures, is, falls, and}
 use Rattle.lines.proofs.put_decimal.Reads as put-decimal
 use Rattle.lines.proofs.put_decimal.Kinds as put-decimal-kinds
 use Rattle.lines.proofs.+put_decimal.Lts-put_decimal as put-decimal-lts
-use Rattle.writing.proofs.put_byte.Reads as put-byte-reads
+use Rattle.storing.proofs.put_byte.Reads as put-byte-reads
 use Rattle.lines.proofs.+put_decimal.{statement}
 use Rattle.lines.proofs.+put_decimal.Tie.{close}
 

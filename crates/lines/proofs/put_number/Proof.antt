@@ -1,6 +1,6 @@
 -- `lines::put_number` meets its contract: a space, then the digits. Assumes nothing.
 use borrow.Author.Needs.{needs}
-use Rattle.writing.proofs.Laws.{stored-then}
+use Rattle.storing.proofs.Laws.{stored-then}
 use Rattle.lines.proofs.put_number.Statement.{statement}
 use Rattle.lines.proofs.put_number.Tie as tie
 

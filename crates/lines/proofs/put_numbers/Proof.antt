@@ -4,8 +4,8 @@ use native.Mathlib.Omega.{arith}
 use denote.Ref.{now}
 use lib.ListN.{getD, take}
 use borrow.Author.Needs.{needs}
-use Rattle.writing.specs.Meaning.{Stored}
-use Rattle.writing.proofs.Laws.{stored-length}
+use Rattle.storing.specs.Stored.{Stored}
+use Rattle.storing.proofs.Laws.{stored-length}
 use Rattle.lines.specs.Meaning.{numbers}
 use Rattle.lines.proofs.Digits.{decimal-byte}
 use Rattle.lines.proofs.Written.{numbers-start, numbers-on, numbers-place, numbers-all}

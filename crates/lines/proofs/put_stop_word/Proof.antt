@@ -1,6 +1,6 @@
 -- `lines::put_stop_word` meets its contract: its bytes are stored one after the other. Assumes nothing.
 use borrow.Author.Needs.{needs}
-use Rattle.writing.proofs.Laws.{stored-then}
+use Rattle.storing.proofs.Laws.{stored-then}
 use Rattle.lines.proofs.put_stop_word.Statement.{statement}
 use Rattle.lines.proofs.put_stop_word.Tie as tie
 

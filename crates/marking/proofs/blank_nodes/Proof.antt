@@ -5,7 +5,7 @@ use native.Mathlib.Omega.{arith}
 use denote.Ref.{now}
 use Rattle.definitions.specs.Limits.{nodes}
 use Rattle.definitions.specs.Book.{treeOf}
-use Rattle.marking.specs.Chosen.{chosen, upTo}
+use Rattle.book.specs.Chosen.{chosen, upTo}
 use Rattle.marking.specs.Stale.{ownedBy, LeavesBlank}
 use Rattle.marking.proofs.Blanks.{blanking-none, blanking-more, blanking-all}
 use Rattle.marking.proofs.blank_nodes.Statement.{statement}

@@ -7,7 +7,7 @@ use denote.Ref.{now}
 use borrow.Author.Count.{below-more}
 use Rattle.definitions.specs.Limits.{machines}
 use Rattle.definitions.specs.Sheet.{rowsOf}
-use Rattle.truesheet.proofs.Machines.{is-stale, is-filled}
+use Rattle.sheet.proofs.Reading.{is-stale, is-filled}
 use Rattle.planning.proofs.Laws.{FreshBelow, all-fresh}
 use Rattle.planning.proofs.any_stale.Statement.{statement}
 use Rattle.planning.proofs.any_stale.Tie as tie

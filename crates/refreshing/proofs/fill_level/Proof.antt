@@ -4,7 +4,7 @@ use Prim.Native.Nat.{_-_, _≤_}
 use native.Mathlib.Omega.{arith}
 use Rattle.definitions.specs.Limits.{machines}
 use Rattle.definitions.specs.Book.{treeOf}
-use Rattle.refreshing.specs.Parts.{TableRoom}
+use Rattle.search.specs.Tables.{TableRoom}
 use Rattle.refreshing.specs.Refresh.{LevelFilled}
 use Rattle.refreshing.proofs.Order.{level-none, level-low, level-more, level-all}
 use Rattle.refreshing.proofs.fill_level.Statement.{statement}

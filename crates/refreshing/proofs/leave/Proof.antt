@@ -1,6 +1,6 @@
 -- `refreshing::leave` meets its contract: a node that is never left, or the sum of the three costs in 64 bits. Assumes nothing.
 use native.Mathlib.Omega.{arith}
-use Rattle.truesheet.proofs.Exits.{exits-none, exits-some}
+use Rattle.sheet.proofs.Exits.{exits-none, exits-some}
 use Rattle.refreshing.proofs.Exits.{leave-never, leave-costs}
 use borrow.Author.Needs.{needs}
 use Rattle.refreshing.proofs.leave.Statement.{statement}
@@ -37,7 +37,7 @@ add-result-2 c =
     let at-e = c .before .before in
     let at-own-exit = at-e .before .before in
     let entry = at-own-exit .before .before .before in
-    omega (arith, exits-some (at-own-exit .own-exit .ensures) (at-e .e .given .1) .1, entry .pre .3, c .wide .ensures, entry .fits .w)
+    omega (arith, exits-some (at-own-exit .own-exit .ensures) (at-e .e .given .1) .1, entry .pre .3, c .wide .ensures .0, entry .fits .w)
 
 returns-2 : tie.Need-returns-2
 returns-2 c =
@@ -45,7 +45,7 @@ returns-2 c =
     let at-own-exit = at-e .before .before in
     let entry = at-own-exit .before .before .before in
     let exits = exits-some (at-own-exit .own-exit .ensures) (at-e .e .given .1) in
-    leave-costs (exits .0) (omega (arith, c .wide .ensures)) (omega (arith, exits .1, entry .pre .3, c .wide .ensures, entry .fits .w))
+    leave-costs (exits .0) (omega (arith, c .wide .ensures .0)) (omega (arith, exits .1, entry .pre .3, c .wide .ensures .0, entry .fits .w))
 
 pub leave-spec : {M : Type 1} → statement M
 leave-spec =

@@ -4,7 +4,7 @@ use Prim.Native.Nat.{_≤_}
 use native.Mathlib.Omega.{arith}
 use Rattle.definitions.specs.Limits.{levels}
 use Rattle.definitions.specs.Book.{treeOf}
-use Rattle.refreshing.specs.Parts.{TableRoom}
+use Rattle.search.specs.Tables.{TableRoom}
 use Rattle.refreshing.specs.Refresh.{FilledBelow}
 use Rattle.refreshing.proofs.Order.{below-none, below-more, below-all}
 use Rattle.refreshing.proofs.refresh.Statement.{statement}

@@ -12,7 +12,7 @@ use Rattle.refreshing.proofs.table_entry.Tie as tie
 counting-requires : tie.Need-counting-requires
 counting-requires c κs =
     let p = c .before .before .before .pre in
-    (p .0 .well-formed .length, placing-range (p .0 .well-formed .sound) (p .1), p .2)
+    (p .0 .well-formed, placing-range (p .0 .well-formed .sound) (p .1), p .2)
 
 leave-requires : tie.Need-leave-requires
 leave-requires c κs =

@@ -2,27 +2,26 @@
 use mathlib.Core.Path.{sym, _∙_}
 use Prim.Native.Nat.{_*_, _≤_, _-_}
 use native.Mathlib.Omega.{arith}
-use denote.Ref.{now}
 use Rattle.definitions.specs.Limits.{commands}
 use Rattle.definitions.specs.Book.{treeOf}
 use Rattle.definitions.specs.Sheet.{rowsOf}
 use Rattle.search.specs.Parts.{at}
-use Rattle.refreshing.proofs.Tabling.{TabledTo, tabled-none, tabled-more, tabled-all, gathered-placing}
+use Rattle.search.proofs.Tables.{EntriesTo, entries-none, entries-more, entries-all}
+use Rattle.refreshing.specs.Parts.{memberMove}
+use Rattle.refreshing.proofs.Tabling.{gathered-placing}
 use Rattle.refreshing.proofs.tables.Statement.{statement}
 use Rattle.refreshing.proofs.tables.Tie as tie
 
 abbrev Inv-loop : tie.InvT-loop
 Inv-loop book sheet k members places target₀ price₀ j₀ target price j =
-    (j ≤ commands * k) × TabledTo (treeOf book) (rowsOf sheet) (at members) (at places) j target price
+    (j ≤ commands * k) × EntriesTo (memberMove (treeOf book) (rowsOf sheet) (at members) (at places)) j target price
 
 abbrev μ-loop : tie.MeasureT-loop
 μ-loop book sheet k members places target₀ price₀ j₀ target price j = commands * k - j
 
 loop-holds : tie.Need-loop-holds Inv-loop μ-loop
 loop-holds c =
-    let e = c .before .before .before .before .before .before in
-    let a = e .args in
-    (omega arith, tabled-none (treeOf (now (a .book))) (rowsOf (now (a .sheet))) (at (now (a .members))) (at (now (a .places))) (e .pre .2))
+    (omega arith, entries-none (c .before .before .before .before .before .before .pre .2))
 
 mul-loop : tie.Need-mul-loop Inv-loop μ-loop
 mul-loop c =
@@ -75,11 +74,9 @@ loop-again : tie.Need-loop-again Inv-loop μ-loop
 loop-again c =
     let at-word = c .before in
     let l = at-word .before .before in
-    let e = l .before .before .before .before .before .before .before in
-    let a = e .args in (
+    let e = l .before .before .before .before .before .before .before in (
       omega arith,
-      tabled-more (treeOf (now (a .book))) (rowsOf (now (a .sheet))) (at (now (a .members))) (at (now (a .places)))
-          (c .table-entry .result .target) (c .table-entry .result .price) (l .loop .inv .1) (omega (arith, e .pre .1 .1 .many))
+      entries-more (l .loop .inv .1) (c .table-entry .result .target) (c .table-entry .result .price) (omega (arith, e .pre .1 .1 .many))
           (rw (at-word .word .ensures) at (c .table-entry .ensures)),
     )
 
@@ -98,10 +95,7 @@ same-length-2 c =
 returns : tie.Need-returns Inv-loop μ-loop
 returns c =
     let turn = c .before in
-    let entry = turn .before .before .before .before .before .before .before in
-    let a = entry .args in
-    tabled-all (treeOf (now (a .book))) (rowsOf (now (a .sheet))) (at (now (a .members))) (at (now (a .places))) (turn .loop .inv .1)
-    (c .loop-test .left)
+    entries-all (turn .loop .inv .1) (turn .before .before .before .before .before .before .before .args .k) (c .loop-test .left)
 
 pub tables-spec : {M : Type 1} → statement M
 tables-spec =

@@ -3,7 +3,7 @@ use mathlib.Core.Path.{sym, _∙_}
 use borrow.Author.Tests.{eq-eqb, ne-eqb}
 use denote.Ref.{now}
 use Rattle.definitions.specs.Book.{treeOf}
-use Rattle.marking.specs.Chosen.{chosen}
+use Rattle.book.specs.Chosen.{chosen}
 use Rattle.removing.specs.Within.{goesWith}
 use Rattle.removing.proofs.Pass.{node-goes, node-stays, node-cleared}
 use borrow.Author.Needs.{needs}

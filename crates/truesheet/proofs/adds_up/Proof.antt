@@ -3,8 +3,9 @@ use native.Mathlib.Omega.{arith}
 use denote.Ref.{now}
 use borrow.Author.Needs.{needs}
 use Rattle.definitions.specs.Book.{treeOf}
-use Rattle.truesheet.proofs.Reading.{rowsOf-read}
-use Rattle.truesheet.proofs.Exits.{exits-some, adds-blank, adds-never, adds-decides}
+use Rattle.sheet.proofs.Reading.{rowsOf-read}
+use Rattle.sheet.proofs.Exits.{exits-some}
+use Rattle.truesheet.proofs.Exits.{adds-blank, adds-never, adds-decides}
 use Rattle.truesheet.proofs.adds_up.Statement.{statement}
 use Rattle.truesheet.proofs.adds_up.Tie as tie
 

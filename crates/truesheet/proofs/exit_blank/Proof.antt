@@ -1,7 +1,7 @@
 -- `truesheet::exit_blank` meets its contract: both words say nothing. Assumes nothing.
 use denote.Ref.{now}
 use borrow.Author.Needs.{needs}
-use Rattle.truesheet.proofs.Reading.{rowsOf-read}
+use Rattle.sheet.proofs.Reading.{rowsOf-read}
 use Rattle.truesheet.proofs.Machines.{exit-there, exit-blank}
 use Rattle.truesheet.proofs.exit_blank.Statement.{statement}
 use Rattle.truesheet.proofs.exit_blank.Tie as tie

@@ -2,7 +2,7 @@
 use denote.Ref.{now}
 use borrow.Author.Needs.{needs}
 use Rattle.definitions.specs.Book.{treeOf}
-use Rattle.truesheet.proofs.Reading.{rowsOf-read}
+use Rattle.sheet.proofs.Reading.{rowsOf-read}
 use Rattle.truesheet.proofs.Machines.{exit-none, exit-some}
 use Rattle.truesheet.proofs.exit_fits.Statement.{statement}
 use Rattle.truesheet.proofs.exit_fits.Tie as tie

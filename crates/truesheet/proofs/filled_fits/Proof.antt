@@ -3,7 +3,7 @@ use denote.Ref.{now}
 use borrow.Author.Needs.{needs}
 use Rattle.definitions.specs.Book.{treeOf}
 use Rattle.book.proofs.Decide.{passed, refused}
-use Rattle.truesheet.proofs.Reading.{rowsOf-read}
+use Rattle.sheet.proofs.Reading.{rowsOf-read}
 use Rattle.truesheet.proofs.Nodes.{filled-start-other, filled-start, filled-blank, filled-unnamed, filled-named}
 use Rattle.truesheet.proofs.filled_fits.Statement.{statement}
 use Rattle.truesheet.proofs.filled_fits.Tie as tie

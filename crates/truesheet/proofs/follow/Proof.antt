@@ -7,8 +7,8 @@ use denote.Ref.{now}
 use Rattle.definitions.specs.Limits.{nodes, longestChain}
 use Rattle.definitions.specs.Sheet.{rowsOf}
 use Rattle.definitions.proofs.Words.{present-word}
-use Rattle.wellformed.proofs.Reading.{unsaid}
-use Rattle.truesheet.proofs.Reading.{rowsOf-read}
+use Rattle.book.proofs.Said.{unsaid}
+use Rattle.sheet.proofs.Reading.{rowsOf-read}
 use Rattle.truesheet.proofs.Chains.{Ahead, ahead-none, ahead-more, follows-counted, follows-here, follows-far}
 use Rattle.truesheet.proofs.follow.Statement.{statement}
 use Rattle.truesheet.proofs.follow.Tie as tie

@@ -1,7 +1,7 @@
 -- `truesheet::node_blank` meets its contract: all three words say nothing. Assumes nothing.
 use denote.Ref.{now}
 use borrow.Author.Needs.{needs}
-use Rattle.truesheet.proofs.Reading.{rowsOf-read}
+use Rattle.sheet.proofs.Reading.{rowsOf-read}
 use Rattle.truesheet.proofs.Nodes.{blank-reached, blank-before, blank-decides}
 use Rattle.truesheet.proofs.node_blank.Statement.{statement}
 use Rattle.truesheet.proofs.node_blank.Tie as tie

@@ -4,8 +4,8 @@ use mathlib.Core.Logic.{⊎-elim}
 use native.Mathlib.Omega.{arith}
 use denote.Ref.{now}
 use borrow.Author.Needs.{needs}
-use Rattle.truesheet.proofs.Reading.{rowsOf-read}
-use Rattle.truesheet.proofs.Exits.{exits-some}
+use Rattle.sheet.proofs.Reading.{rowsOf-read}
+use Rattle.sheet.proofs.Exits.{exits-some}
 use Rattle.truesheet.proofs.Nodes.{relaxed-never, relaxed-exit, relaxed-move}
 use Rattle.truesheet.proofs.relaxed_by.Statement.{statement}
 use Rattle.truesheet.proofs.relaxed_by.Tie as tie

@@ -1,7 +1,7 @@
 -- `truesheet::start_fits` meets its contract: cost 0, and both names say nothing. Assumes nothing.
 use denote.Ref.{now}
 use borrow.Author.Needs.{needs}
-use Rattle.truesheet.proofs.Reading.{rowsOf-read}
+use Rattle.sheet.proofs.Reading.{rowsOf-read}
 use Rattle.truesheet.proofs.Nodes.{start-reached, start-before, start-decides}
 use Rattle.truesheet.proofs.start_fits.Statement.{statement}
 use Rattle.truesheet.proofs.start_fits.Tie as tie

@@ -7,7 +7,7 @@ use lib.ListN.{length}
 use borrow.Author.Needs.{needs}
 use Rattle.definitions.specs.Limits.{sheetLength}
 use Rattle.book.proofs.Decide.{passed, refused, decides-same}
-use Rattle.truesheet.proofs.Reading.{rowsOf-read}
+use Rattle.sheet.proofs.Reading.{rowsOf-read}
 use Rattle.truesheet.proofs.Fits.{names-fit, true-fits}
 use Rattle.truesheet.proofs.true_sheet.Statement.{statement}
 use Rattle.truesheet.proofs.true_sheet.Tie as tie

@@ -1,6 +1,7 @@
 -- `wellformed::below_fits` meets its contract: the machine below names the node as its holder. Assumes nothing.
 use denote.Ref.{now}
-use Rattle.wellformed.proofs.Reading.{treeOf-read, unsaid-all}
+use Rattle.book.proofs.Said.{unsaid-all}
+use Rattle.wellformed.proofs.Reading.{treeOf-read}
 use Rattle.wellformed.proofs.Deciding.{below-decides}
 use borrow.Author.Needs.{needs}
 use Rattle.wellformed.proofs.below_fits.Statement.{statement}

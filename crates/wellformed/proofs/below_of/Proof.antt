@@ -1,7 +1,8 @@
 -- `wellformed::below_of` meets its contract: a book says nothing of a number past the limit. Assumes nothing.
 use denote.Ref.{now}
 use Rattle.definitions.specs.Book.{treeOf}
-use Rattle.wellformed.proofs.Reading.{treeOf-read, outside}
+use Rattle.book.proofs.Said.{outside}
+use Rattle.wellformed.proofs.Reading.{treeOf-read}
 use borrow.Author.Needs.{needs}
 use Rattle.wellformed.proofs.below_of.Statement.{statement}
 use Rattle.wellformed.proofs.below_of.Tie as tie

@@ -10,7 +10,8 @@ use Rattle.definitions.specs.Book.{treeOf}
 use Rattle.definitions.specs.Tree.{parent}
 use Rattle.definitions.proofs.Words.{present-word}
 use Rattle.wellformed.specs.Fits.{Climbs}
-use Rattle.wellformed.proofs.Reading.{treeOf-read, unsaid, parent-read}
+use Rattle.book.proofs.Said.{unsaid}
+use Rattle.wellformed.proofs.Reading.{treeOf-read, parent-read}
 use Rattle.wellformed.proofs.Climbing.{climbs-here, climbs-last, climbs-stuck, climbs-up}
 use borrow.Author.Needs.{needs}
 use Rattle.wellformed.proofs.climbs.Statement.{statement}

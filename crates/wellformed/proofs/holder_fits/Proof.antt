@@ -1,6 +1,7 @@
 -- `wellformed::holder_fits` meets its contract: each test settles one thing that is asked of the holder. Assumes nothing.
 use denote.Ref.{now}
-use Rattle.wellformed.proofs.Reading.{treeOf-read, unsaid-all}
+use Rattle.book.proofs.Said.{unsaid-all}
+use Rattle.wellformed.proofs.Reading.{treeOf-read}
 use Rattle.wellformed.proofs.Deciding.{holder-other, holder-unused, holder-decides}
 use borrow.Author.Needs.{needs}
 use Rattle.wellformed.proofs.holder_fits.Statement.{statement}

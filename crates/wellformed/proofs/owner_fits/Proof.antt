@@ -1,6 +1,7 @@
 -- `wellformed::owner_fits` meets its contract: a machine is in use where it has a start node. Assumes nothing.
 use denote.Ref.{now}
-use Rattle.wellformed.proofs.Reading.{treeOf-read, unsaid-all}
+use Rattle.book.proofs.Said.{unsaid-all}
+use Rattle.wellformed.proofs.Reading.{treeOf-read}
 use Rattle.wellformed.proofs.Deciding.{owner-decides}
 use borrow.Author.Needs.{needs}
 use Rattle.wellformed.proofs.owner_fits.Statement.{statement}

@@ -1,6 +1,7 @@
 -- `wellformed::start_fits` meets its contract: the start node is the machine's own, and `climbs` decides the climb. Assumes nothing.
 use denote.Ref.{now}
-use Rattle.wellformed.proofs.Reading.{treeOf-read, unsaid-all}
+use Rattle.book.proofs.Said.{unsaid-all}
+use Rattle.wellformed.proofs.Reading.{treeOf-read}
 use Rattle.wellformed.proofs.Deciding.{start-other, start-decides}
 use borrow.Author.Needs.{needs}
 use Rattle.wellformed.proofs.start_fits.Statement.{statement}

@@ -5,7 +5,8 @@ use denote.Ref.{now}
 use Rattle.definitions.specs.Limits.{nodes}
 use Rattle.definitions.specs.Book.{treeOf}
 use Rattle.definitions.specs.Write.{writtenAdd}
-use Rattle.writing.proofs.Laws.{stored-length, add-short, Pieces, pieces-none, pieces-room, pieces-more, pieces-all}
+use Rattle.storing.proofs.Laws.{stored-length}
+use Rattle.writing.proofs.Laws.{add-short, Pieces, pieces-none, pieces-room, pieces-more, pieces-all}
 use Rattle.writing.proofs.adds.Statement.{statement}
 use Rattle.writing.proofs.adds.Tie as tie
 

@@ -5,7 +5,8 @@ use denote.Ref.{now}
 use Rattle.definitions.specs.Limits.{nodes}
 use Rattle.definitions.specs.Book.{treeOf}
 use Rattle.writing.specs.Meaning.{writtenArrows}
-use Rattle.writing.proofs.Laws.{stored-length, arrows-short, Pieces, pieces-none, pieces-room, pieces-more, pieces-all}
+use Rattle.storing.proofs.Laws.{stored-length}
+use Rattle.writing.proofs.Laws.{arrows-short, Pieces, pieces-none, pieces-room, pieces-more, pieces-all}
 use Rattle.writing.proofs.all_arrows.Statement.{statement}
 use Rattle.writing.proofs.all_arrows.Tie as tie
 

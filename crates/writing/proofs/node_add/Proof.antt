@@ -5,7 +5,8 @@ use native.Mathlib.Omega.{arith}
 use denote.Ref.{now}
 use Rattle.definitions.specs.Book.{treeOf}
 use Rattle.definitions.proofs.Words.{present-word, owner-range, no-owner}
-use Rattle.writing.proofs.Laws.{stored-none, stored-is, add-unused, add-other, add-start, add-node, start-of-owner}
+use Rattle.storing.proofs.Laws.{stored-none, stored-is}
+use Rattle.writing.proofs.Laws.{add-unused, add-other, add-start, add-node, start-of-owner}
 use Rattle.writing.proofs.node_add.Statement.{statement}
 use Rattle.writing.proofs.node_add.Tie as tie
 

@@ -3,7 +3,8 @@ use borrow.Author.Needs.{needs}
 use denote.Ref.{now}
 use Rattle.definitions.specs.Book.{treeOf}
 use Rattle.definitions.proofs.Words.{no-transition, some-transition}
-use Rattle.writing.proofs.Laws.{stored-none, stored-is, arrow-none, arrow-node}
+use Rattle.storing.proofs.Laws.{stored-none, stored-is}
+use Rattle.writing.proofs.Laws.{arrow-none, arrow-node}
 use Rattle.writing.proofs.node_arrow.Statement.{statement}
 use Rattle.writing.proofs.node_arrow.Tie as tie
 

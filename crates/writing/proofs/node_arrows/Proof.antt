@@ -5,7 +5,8 @@ use denote.Ref.{now}
 use Rattle.definitions.specs.Limits.{commands}
 use Rattle.definitions.specs.Book.{treeOf}
 use Rattle.definitions.specs.Write.{writtenArrow}
-use Rattle.writing.proofs.Laws.{stored-length, arrow-short, Pieces, pieces-none, pieces-room, pieces-more, pieces-all}
+use Rattle.storing.proofs.Laws.{stored-length}
+use Rattle.writing.proofs.Laws.{arrow-short, Pieces, pieces-none, pieces-room, pieces-more, pieces-all}
 use Rattle.writing.proofs.node_arrows.Statement.{statement}
 use Rattle.writing.proofs.node_arrows.Tie as tie
 

@@ -4,7 +4,8 @@ use mathlib.Core.Path.{sym, _∙_}
 use denote.Ref.{now}
 use Rattle.definitions.specs.Book.{treeOf}
 use Rattle.definitions.proofs.Words.{present-word, below-range, start-range, no-below}
-use Rattle.writing.proofs.Laws.{stored-none, stored-is, refine-plain, refine-other, refine-node, refined-used, start-of-below}
+use Rattle.storing.proofs.Laws.{stored-none, stored-is}
+use Rattle.writing.proofs.Laws.{refine-plain, refine-other, refine-node, refined-used, start-of-below}
 use Rattle.writing.proofs.node_refine.Statement.{statement}
 use Rattle.writing.proofs.node_refine.Tie as tie
 

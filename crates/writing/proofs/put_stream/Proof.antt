@@ -4,7 +4,8 @@ use native.Mathlib.Omega.{arith}
 use denote.Ref.{now}
 use Rattle.definitions.specs.Book.{treeOf}
 use Rattle.definitions.proofs.Words.{start-range}
-use Rattle.writing.proofs.Laws.{stored-is, stored-then, root-range, root-start, levels-short, whole-stream}
+use Rattle.storing.proofs.Laws.{stored-is, stored-then}
+use Rattle.writing.proofs.Laws.{root-range, root-start, levels-short, whole-stream}
 use Rattle.writing.proofs.put_stream.Statement.{statement}
 use Rattle.writing.proofs.put_stream.Tie as tie
 

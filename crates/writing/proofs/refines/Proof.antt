@@ -5,7 +5,8 @@ use denote.Ref.{now}
 use Rattle.definitions.specs.Limits.{nodes}
 use Rattle.definitions.specs.Book.{treeOf}
 use Rattle.definitions.specs.Write.{writtenRefine}
-use Rattle.writing.proofs.Laws.{stored-length, refine-short, Pieces, pieces-none, pieces-room, pieces-more, pieces-all}
+use Rattle.storing.proofs.Laws.{stored-length}
+use Rattle.writing.proofs.Laws.{refine-short, Pieces, pieces-none, pieces-room, pieces-more, pieces-all}
 use Rattle.writing.proofs.refines.Statement.{statement}
 use Rattle.writing.proofs.refines.Tie as tie
 

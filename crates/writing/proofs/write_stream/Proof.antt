@@ -1,6 +1,6 @@
 -- `writing::write_stream` meets its contract: the stream has room at the front. Assumes nothing.
 use borrow.Author.Needs.{needs}
-use Rattle.writing.proofs.Laws.{stored-front}
+use Rattle.storing.proofs.Laws.{stored-front}
 use Rattle.writing.proofs.write_stream.Statement.{statement}
 use Rattle.writing.proofs.write_stream.Tie as tie
 

@@ -1,8 +1,8 @@
--- `truesheet::counting` meets its contract: every transition counts. Assumes nothing.
+-- `book::counting` meets its contract: every transition counts. Assumes nothing.
 use borrow.Author.Needs.{needs}
 use Rattle.definitions.specs.Step.{counting}
-use Rattle.truesheet.proofs.counting.Statement.{statement}
-use Rattle.truesheet.proofs.counting.Tie as tie
+use Rattle.book.proofs.counting.Statement.{statement}
+use Rattle.book.proofs.counting.Tie as tie
 
 transition-requires : tie.Need-transition-requires
 transition-requires c κs = search needs

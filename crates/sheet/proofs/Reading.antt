@@ -6,15 +6,15 @@ use mathlib.Core.List.{List}
 use Prim.Native.Nat.{ℕ, _+_, _≤_, _<_}
 use native.Mathlib.Omega.{arith}
 use lib.Dec.{eqb, ltb}
-use borrow.Author.Tests.{ltb-true, ne-eqb}
+use borrow.Author.Tests.{ltb-true, eq-eqb, ne-eqb}
 use Rattle.definitions.specs.Limits.{machines, nodes, commands, blank}
 use Rattle.definitions.specs.Book.{number, under}
 use Rattle.definitions.specs.Sheet.{Rows, costWord, costOf, machineRowWord, nodeRowWord, rowsOf}
 use Rattle.definitions.proofs.Options.{none-some, some-same, true-false}
 use Rattle.definitions.proofs.Lists.{no-value}
 use Rattle.definitions.proofs.Words.{under-some}
-use Rattle.wellformed.proofs.Fits.{Within}
-use Rattle.wellformed.proofs.Reading.{told, number-read}
+use Rattle.book.proofs.Said.{Within, told, number-read}
+use Rattle.sheet.specs.Fields.{Mark}
 
 -- a cost that is said of number i, if any, is said under the limit, and never by the word for blank
 abbrev pub CostWithin : ℕ → ℕ → Option ℕ → Type 0
@@ -63,6 +63,13 @@ rowsOf-read ws =
       before = λ n k e. number-read nodes n (nodeRowWord ws n 1) e;
       by = λ n k e. number-read nodes n (nodeRowWord ws n 2) e;
     }
+
+-- what a mark says
+pub is-stale : {ws : List ℕ} {m w : ℕ} → Mark ws m w → w ≡ 1 → rowsOf ws .stale m ≡ true
+is-stale {w = w} mark one = mark .says ∙ eq-eqb w 1 one
+
+pub is-filled : {ws : List ℕ} {m w : ℕ} → Mark ws m w → (w ≡ 1 → ⊥) → rowsOf ws .stale m ≡ false
+is-filled {w = w} mark other = mark .says ∙ ne-eqb w 1 other
 
 -- ---- a word v that is the word of the cost that o says
 

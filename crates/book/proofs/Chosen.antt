@@ -4,16 +4,15 @@ use mathlib.Core.Logic.{_⊎_, inl, inr, ⊎-elim}
 use mathlib.Core.Bool.{Bool, true, false, _&&_, _||_, and-false}
 use mathlib.Core.Option.{Option}
 use mathlib.Core.List.{List}
-use Prim.Native.Nat.{ℕ, _+_, _<_}
+use Prim.Native.Nat.{ℕ, zero, suc, _+_, _<_}
 use native.Mathlib.Omega.{arith}
-use native.Mathlib.Decide.{decLt}
 use lib.Dec.{eqb, ltb}
-use lib.ListN.{length, getD, set, replicate, length-replicate, getD-replicate, List·getD-eq-default}
+use lib.ListN.{length, getD, set, replicate}
 use lib.Seq.{getD-set-same, getD-set-other}
 use borrow.Author.Tests.{ltb-true, ltb-false, lt-ltb, le-ltb, eq-eqb, ne-eqb}
 use Rattle.definitions.specs.Basics.{unless}
 use Rattle.definitions.proofs.Options.{equal-or-not}
-use Rattle.marking.specs.Chosen.{chosen, only, upTo}
+use Rattle.book.specs.Chosen.{chosen, only, upTo}
 
 -- ---- tests
 
@@ -51,16 +50,15 @@ unless-both false b o = refl
 
 -- ---- lists
 
--- a list of zeros chooses no number
+-- a list of zeros has 0 at every number
+pub zeros-at : (size k : ℕ) → _≡_ {A = ℕ} (getD (replicate size 0) k 0) 0
+zeros-at zero k = refl
+zeros-at (suc size) zero = refl
+zeros-at (suc size) (suc k) = zeros-at size k
+
+-- so it chooses none
 pub zeros : (size : ℕ) → chosen (replicate size 0) ≡ (λ k. false)
-zeros size = fun-ext λ k. ne-eqb (getD {A = ℕ} (replicate size 0) k 0) 1 (λ e. omega (arith, at k, e))
-  where
-    at : (k : ℕ) → getD {A = ℕ} (replicate size 0) k 0 ≡ 0
-    at k =
-        elim (decLt k size) [
-          | yes under ↦ getD-replicate size k 0 0 under
-          | no past ↦ List·getD-eq-default (replicate size 0) 0 (omega (arith, length-replicate {A = ℕ} size 0))
-        ]
+zeros size = fun-ext λ k. rw (zeros-at size k)
 
 -- one number more is chosen
 pub chosen-more : (list : List ℕ) (m k : ℕ) → m < length list → chosen (set list m 1) k ≡ (eqb m k || chosen list k)

@@ -1,9 +1,9 @@
--- `writing::put_byte` meets its contract: past the list's end a store changes nothing. Assumes nothing.
+-- `storing::put_byte` meets its contract: past the list's end a store changes nothing. Assumes nothing.
 use borrow.Author.Needs.{needs}
 use denote.Ref.{now}
-use Rattle.writing.proofs.Laws.{stored-past}
-use Rattle.writing.proofs.put_byte.Statement.{statement}
-use Rattle.writing.proofs.put_byte.Tie as tie
+use Rattle.storing.proofs.Laws.{stored-past}
+use Rattle.storing.proofs.put_byte.Statement.{statement}
+use Rattle.storing.proofs.put_byte.Tie as tie
 
 add-result : tie.Need-add-result
 add-result c = search needs

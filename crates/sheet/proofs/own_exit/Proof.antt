@@ -1,13 +1,13 @@
--- `truesheet::own_exit` meets its contract: what the machine below says, by its words. Assumes nothing.
+-- `sheet::own_exit` meets its contract: what the machine below says, by its words. Assumes nothing.
 use mathlib.Core.Path.{sym, _∙_}
 use mathlib.Core.Logic.{⊎-elim}
 use native.Mathlib.Omega.{arith}
 use denote.Ref.{now}
 use borrow.Author.Needs.{needs}
-use Rattle.truesheet.proofs.Reading.{rowsOf-read}
-use Rattle.truesheet.proofs.Exits.{exits-plain, exits-never, exits-costs}
-use Rattle.truesheet.proofs.own_exit.Statement.{statement}
-use Rattle.truesheet.proofs.own_exit.Tie as tie
+use Rattle.sheet.proofs.Reading.{rowsOf-read}
+use Rattle.sheet.proofs.Exits.{exits-plain, exits-never, exits-costs}
+use Rattle.sheet.proofs.own_exit.Statement.{statement}
+use Rattle.sheet.proofs.own_exit.Tie as tie
 
 below-requires : tie.Need-below-requires
 below-requires c κs = search needs

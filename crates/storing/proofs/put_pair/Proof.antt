@@ -1,8 +1,8 @@
--- `writing::put_pair` meets its contract: its bytes are stored one after the other. Assumes nothing.
+-- `storing::put_pair` meets its contract: its bytes are stored one after the other. Assumes nothing.
 use borrow.Author.Needs.{needs}
-use Rattle.writing.proofs.Laws.{stored-then}
-use Rattle.writing.proofs.put_pair.Statement.{statement}
-use Rattle.writing.proofs.put_pair.Tie as tie
+use Rattle.storing.proofs.Laws.{stored-then}
+use Rattle.storing.proofs.put_pair.Statement.{statement}
+use Rattle.storing.proofs.put_pair.Tie as tie
 
 put-byte-requires : tie.Need-put-byte-requires
 put-byte-requires c κs = search needs
