@@ -10,7 +10,6 @@ use Rattle.definitions.specs.Basics.{_>>=_, isSome, isAt}
 use Rattle.definitions.specs.Limits.{machines, absent}
 use Rattle.definitions.specs.Tree.{Tree, Transition, usedMachine}
 use Rattle.definitions.specs.Book.{word, number, under}
-use Rattle.book.specs.Fields.{withRoot}
 
 -- the greatest number under k that passes the test
 unfoldable pub lastUnder : ℕ → (ℕ → Bool) → Option ℕ
@@ -53,16 +52,16 @@ linked rows k n zero = neighbour (under k n (nextLower rows n))
 linked rows k n (suc zero) = neighbour (lastUnder k (λ v. isAt (nextLower rows v) n))
 linked rows k n (suc (suc x)) = none
 
--- the first k rows as a tree that has no root yet: a node is the holder of the machine below it, and the start of its machine where its
--- row says so
-unfoldable pub grown : List ℕ → ℕ → Tree
-grown rows k =
+-- the first k rows as a tree with root r: a node is the holder of the machine below it, and the start of its machine where its row says
+-- so
+unfoldable pub grown : List ℕ → ℕ → ℕ → Tree
+grown rows k r =
     record {
-      root = absent;
+      root = r;
       owner = λ n. under k n (rowOwner rows n);
       below = λ n. under k n (rowBelow rows n);
-      start = λ m. lastUnder k (λ n. rowStart rows n && isAt (rowOwner rows n) m);
-      holder = λ m. lastUnder k (λ n. isAt (rowBelow rows n) m);
+      start = λ m. under machines m (lastUnder k (λ n. rowStart rows n && isAt (rowOwner rows n) m));
+      holder = λ m. under machines m (lastUnder k (λ n. isAt (rowBelow rows n) m));
       transition = λ n x. linked rows k n x;
     }
 
@@ -76,16 +75,4 @@ rootOf t = word (lastUnder machines (free t))
 
 -- the tree that a table says
 unfoldable pub rowTree : List ℕ → Tree
-rowTree rows = withRoot (grown rows (rowCount rows)) (rootOf (grown rows (rowCount rows)))
-
--- the tree with no machine and no node
-unfoldable pub noTree : Tree
-noTree =
-    record {
-      root = absent;
-      owner = λ n. none;
-      below = λ n. none;
-      start = λ m. none;
-      holder = λ m. none;
-      transition = λ n x. none;
-    }
+rowTree rows = grown rows (rowCount rows) (rootOf (grown rows (rowCount rows) absent))
