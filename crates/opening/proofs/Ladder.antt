@@ -13,13 +13,13 @@ use Rattle.definitions.specs.Basics.{isAt, isSome}
 use Rattle.definitions.specs.Limits.{machines, absent}
 use Rattle.definitions.specs.Book.{word, number, under}
 use Rattle.definitions.specs.Open.{given, ladderNodes, ladderMachines, ladderBelow, ladderHolder, ladderTransition, ladderTree}
+use Rattle.definitions.specs.Open.{rowLength, lastUnder, cell, rowOwner, rowBelow, rowStart, nextLower, neighbour, linked}
+use Rattle.definitions.specs.Open.{grown, free, rootOf, rowTree}
 use Rattle.definitions.proofs.Options.{isAt-true, isAt-some, none-some}
 use Rattle.definitions.proofs.Simple.{and-true as both}
 use Rattle.definitions.proofs.Commands.{not-true-false}
 use Rattle.definitions.proofs.Opened.{given-some, given-below, ladder-holder}
 use Rattle.definitions.proofs.Words.{under-is, number-word, same-tree}
-use Rattle.opening.specs.Table.{rowLength, lastUnder, cell, rowOwner, rowBelow, rowStart, nextLower, neighbour, linked}
-use Rattle.opening.specs.Table.{grown, free, rootOf, rowTree}
 use Rattle.opening.specs.Ladder.{ladderCell, ladderLength, ladderRight}
 use Rattle.opening.proofs.Every.{every, every-at}
 use Rattle.opening.proofs.Last.{last-is, last-only, last-none}

@@ -14,9 +14,9 @@ use Rattle.definitions.specs.Basics.{isSome, isAt}
 use Rattle.definitions.specs.Limits.{machines, nodes, costs, absent}
 use Rattle.definitions.specs.Tree.{Transition}
 use Rattle.definitions.specs.Book.{word, number, under, transitionWord, transitionOf, machineWord, treeOf}
+use Rattle.definitions.specs.Open.{lastUnder, cell, rowOwner, nextLower, neighbour, free}
 use Rattle.definitions.proofs.Options.{equal-or-not, some-same}
 use Rattle.definitions.proofs.Words.{transition-word}
-use Rattle.opening.specs.Table.{lastUnder, cell, rowOwner, nextLower, neighbour, free}
 use Rattle.opening.proofs.Last.{last-is, last-skip}
 
 -- what a list holds at a place inside it does not depend on what it gives past its end

@@ -8,11 +8,10 @@ use Rattle.definitions.specs.Limits.{bookLength, sheetLength, absent}
 use Rattle.definitions.specs.Tree.{Tree}
 use Rattle.definitions.specs.Book.{encode, treeOf}
 use Rattle.definitions.specs.Sheet.{encodeRows}
-use Rattle.definitions.specs.Open.{openRows}
+use Rattle.definitions.specs.Open.{rowCount, grown, rootOf, rowTree, openRows}
 use Rattle.definitions.specs.Calls.{WrongLength, OpenSays}
 use Rattle.definitions.proofs.Words.{encode-treeOf}
 use Rattle.book.specs.Fields.{Holds, withRoot}
-use Rattle.opening.specs.Table.{grown, rootOf, rowCount, rowTree}
 
 -- a book with all rows, in which the root that it asks for is written, holds the table's tree
 pub book-rooted : (rows : List ℕ) {ws after : List ℕ} (r : ℕ) → Holds ws (grown rows (rowCount rows) absent) → r ≡ rootOf (treeOf ws)

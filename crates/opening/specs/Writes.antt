@@ -7,7 +7,7 @@ use Rattle.definitions.specs.Limits.{machines, nodes}
 use Rattle.definitions.specs.Tree.{Tree}
 use Rattle.definitions.specs.Edit.{withTransition}
 use Rattle.book.specs.Fields.{withHolder, withStartOf}
-use Rattle.opening.specs.Table.{neighbour}
+use Rattle.definitions.specs.Open.{neighbour}
 
 -- node n as the holder of the machine below it, where that is one
 unfoldable pub withHeld : Tree → ℕ → ℕ → Tree

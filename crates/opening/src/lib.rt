@@ -10,9 +10,9 @@ ghost use Rattle.definitions.specs.Tree.{usedMachine};
 ghost use Rattle.definitions.specs.Book.{word, encode, treeOf};
 ghost use Rattle.definitions.specs.Sheet.{encodeRows};
 ghost use Rattle.definitions.specs.Open.{freshTree, ladderTree, openRows};
+ghost use Rattle.definitions.specs.Open.{rowLength, rowCount, cell, nextLower, grown, free, rootOf, rowTree};
 ghost use Rattle.definitions.specs.Calls.{OpenSays};
 ghost use Rattle.book.specs.Fields.{Holds};
-ghost use Rattle.opening.specs.Table.{rowLength, rowCount, cell, nextLower, grown, free, rootOf, rowTree};
 ghost use Rattle.opening.specs.Writes.{withHeld, withStarted, withLinks};
 
 mod table;

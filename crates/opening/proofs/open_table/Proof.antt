@@ -2,7 +2,7 @@
 use mathlib.Core.Logic.{inl, inr}
 use native.Mathlib.Omega.{arith}
 use denote.Ref.{now}
-use Rattle.opening.specs.Table.{rowTree}
+use Rattle.definitions.specs.Open.{rowTree}
 use Rattle.opening.proofs.Says.{refused, opened}
 use borrow.Author.Needs.{needs}
 use Rattle.opening.proofs.open_table.Statement.{statement}

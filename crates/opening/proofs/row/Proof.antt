@@ -5,7 +5,7 @@ use native.Mathlib.Omega.{arith}
 use denote.Ref.{now}
 use lib.ListN.{getD}
 use Rattle.definitions.specs.Limits.{absent}
-use Rattle.opening.specs.Table.{cell}
+use Rattle.definitions.specs.Open.{cell}
 use Rattle.opening.proofs.Reading.{getD-any}
 use borrow.Author.Needs.{needs}
 use Rattle.opening.proofs.row.Statement.{statement}
