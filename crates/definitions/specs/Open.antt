@@ -1,9 +1,14 @@
--- Document 01, "Opening": the trees of Open fresh and Open ladder, and the rows of an opening.
-use mathlib.Core.Bool.{Bool, cond, _&&_}
+-- Document 01, "Opening": the trees of Open fresh and Open ladder, the tree that a table of rows says, and the sheet of an opening.
+use mathlib.Core.Bool.{Bool, not, cond, _&&_}
 use mathlib.Core.Option.{Option, none, some}
+use mathlib.Core.List.{List}
 use Prim.Native.Nat.{ℕ, zero, suc, _+_, _*_, _-_, _/_, _%_}
-use lib.Dec.{ltb}
+use lib.Dec.{eqb, ltb}
+use lib.ListN.{length, getD}
+use Rattle.definitions.specs.Basics.{_>>=_, isSome, isAt}
+use Rattle.definitions.specs.Limits.{machines, absent}
 use Rattle.definitions.specs.Tree.{Tree, Transition, usedMachine}
+use Rattle.definitions.specs.Book.{word, number, under}
 use Rattle.definitions.specs.Sheet.{Rows}
 use Rattle.definitions.specs.Edit.{single}
 
@@ -52,6 +57,77 @@ ladderTree =
       holder = λ m. ladderHolder m;
       transition = λ n x. ladderTransition n x;
     }
+
+-- ---- a table of rows, as the ladder's is one
+
+-- the greatest number under k that passes the test
+unfoldable pub lastUnder : ℕ → (ℕ → Bool) → Option ℕ
+lastUnder zero p = none
+lastUnder (suc k) p = cond (p k) (some k) (lastUnder k p)
+
+-- Row n has three numbers for node n: owner, machine below (document 01: part below), and 1 where the node is its machine's start, else
+-- 0; 65,535 is "none". How many numbers a row has, and how many rows a table has:
+abbrev pub rowLength : ℕ
+rowLength = 3
+
+abbrev pub rowCount : List ℕ → ℕ
+rowCount rows = length rows / rowLength
+
+-- the number at place k of row n; "none" past the table's end
+unfoldable pub cell : List ℕ → ℕ → ℕ → ℕ
+cell rows n k = getD rows (n * rowLength + k) absent
+
+-- what row n says: its node's owner, the machine below, and whether the node is a start
+unfoldable pub rowOwner : List ℕ → ℕ → Option ℕ
+rowOwner rows n = number (cell rows n 0)
+
+unfoldable pub rowBelow : List ℕ → ℕ → Option ℕ
+rowBelow rows n = number (cell rows n 1)
+
+unfoldable pub rowStart : List ℕ → ℕ → Bool
+rowStart rows n = eqb (cell rows n 2) 1
+
+-- the next lower node of node n's machine
+unfoldable pub nextLower : List ℕ → ℕ → Option ℕ
+nextLower rows n = rowOwner rows n >>= λ m. lastUnder n (λ j. isAt (rowOwner rows j) m)
+
+-- the transition to a neighbour that may be absent: it costs 1
+unfoldable pub neighbour : Option ℕ → Option Transition
+neighbour o = o >>= λ v. some (record { target = v; cost = 1 })
+
+-- the transitions of node n in the first k rows: command 0 goes to its next lower node, and command 1 to the node whose next lower
+-- node it is
+unfoldable pub linked : List ℕ → ℕ → ℕ → ℕ → Option Transition
+linked rows k n zero = neighbour (under k n (nextLower rows n))
+linked rows k n (suc zero) = neighbour (lastUnder k (λ v. isAt (nextLower rows v) n))
+linked rows k n (suc (suc x)) = none
+
+-- the first k rows as a tree with root r: owner and machine below are the row's, the start of a machine is its node whose row says so, and
+-- its holder the node that it is below (of several, the last)
+unfoldable pub grown : List ℕ → ℕ → ℕ → Tree
+grown rows k r =
+    record {
+      root = r;
+      owner = λ n. under k n (rowOwner rows n);
+      below = λ n. under k n (rowBelow rows n);
+      start = λ m. under machines m (lastUnder k (λ n. rowStart rows n && isAt (rowOwner rows n) m));
+      holder = λ m. under machines m (lastUnder k (λ n. isAt (rowBelow rows n) m));
+      transition = λ n x. linked rows k n x;
+    }
+
+-- whether a machine in use is held by no node
+unfoldable pub free : Tree → ℕ → Bool
+free t m = usedMachine t m && not (isSome (t .holder m))
+
+-- the root that a tree without one asks for: its machine that no node holds (of several, the last)
+unfoldable pub rootOf : Tree → ℕ
+rootOf t = word (lastUnder machines (free t))
+
+-- the tree that a table says: that of all its rows
+unfoldable pub rowTree : List ℕ → Tree
+rowTree rows = grown rows (rowCount rows) (rootOf (grown rows (rowCount rows) absent))
+
+-- ---- the sheet of an opening, and the openings
 
 -- the rows of an opening: every machine in use is marked, and all is blank
 unfoldable pub openRows : Tree → Rows

@@ -1,4 +1,3 @@
-pub mod Names
 pub mod Traceable
 pub mod Tracing
 pub mod Opening

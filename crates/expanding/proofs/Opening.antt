@@ -13,9 +13,8 @@ use Rattle.definitions.specs.Sheet.{Rows, rowsOf}
 use Rattle.definitions.proofs.Words.{present-word, absent-word, below-range}
 use Rattle.plantheory.specs.Expand.{chainPart, pathBy, nodePart}
 use Rattle.plantheory.proofs.Expanded.{path-last, part-refined}
-use Rattle.expanding.specs.Names.{Traceable, nameAt}
+use Rattle.expanding.specs.Names.{Traceable}
 use Rattle.expanding.specs.Expanding.{Fresh, leavePart, stepsPart, Steps, Traced, Opens}
-use Rattle.expanding.proofs.Names.{from, sheet-before, sheet-by}
 use Rattle.expanding.proofs.Traceable.{row-traceable}
 use Rattle.expanding.proofs.Tracing.{steps-stored}
 
@@ -80,16 +79,11 @@ module _ {book sheet : List ℕ} (lent : Fresh book sheet) (n x : ℕ) (range : 
       (bel, below-range tree (lent .well-formed .sound) n w bel .1)
 
   -- the names of its row can be followed from its last node
-  last-traceable : {m u : ℕ} → tree .below n ≡ some m → rows .last m x ≡ some u → Traceable (rows .before) (rows .by) u
+  pub last-traceable : {m u : ℕ} → tree .below n ≡ some m → rows .last m x ≡ some u → Traceable (rows .before) (rows .by) u
   last-traceable {m} bel last =
       let s = lent .well-formed .sound in
       let (f, used) = s .held-used m n (s .below-held n m bel) in
       row-traceable s (lent .true-sheet .rows) (lent .fresh) used range last
-
-  -- and so can they as the code reads them
-  pub lent-traceable : {m u : ℕ} → tree .below n ≡ some m → rows .last m x ≡ some u
-      → Traceable (nameAt 3 (from 2113 sheet)) (nameAt 3 (from 2114 sheet)) u
-  lent-traceable bel last = rw (sheet-before sheet, sheet-by sheet) (last-traceable bel last)
 
   -- the word for absent says that there is no last node
   pub no-last : {m w : ℕ} → tree .below n ≡ some m → w ≡ word (rows .last m x) → w ≡ absent → rows .last m x ≡ none

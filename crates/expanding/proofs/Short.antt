@@ -17,9 +17,8 @@ use Rattle.definitions.proofs.LocalTruth.{true-local}
 use Rattle.definitions.proofs.Simple.{enter-inside, inside-root, statesIn-states, states-bound, simple-length}
 use Rattle.plantheory.specs.Expand.{nodePart, planPart}
 use Rattle.plantheory.proofs.Expanded.{part-plain, leave-node}
-use Rattle.expanding.specs.Names.{nameAt}
+use Rattle.search.specs.Search.{nameOf}
 use Rattle.expanding.specs.Expanding.{Fresh, planOf, leavePart, stepsPart, Steps, Traced}
-use Rattle.expanding.proofs.Names.{search-names}
 use Rattle.expanding.proofs.Tracing.{traced-all}
 use Rattle.expanding.proofs.Traceable.{row-exit}
 use Rattle.expanding.proofs.Opening.{part-none}
@@ -74,11 +73,11 @@ module _ {t : Tree} (s : Sound t) (r : Rows) (rows : TrueRows t r) (fresh : (m :
 
 -- the noted steps are the plan's commands, and these can be counted in 32 bits
 pub plan-steps : {book sheet : List ℕ} (before by : List ℕ) {b k : ℕ} {left given left′ given′ : List ℕ} → Fresh book sheet
-    → Traced (nameAt 1 before) (nameAt 1 by) b 0 left given k left′ given′
+    → Traced (nameOf nodes before) (nameOf nodes by) b 0 left given k left′ given′
     → (stepsPart (nodePart levels (treeOf book) (rowsOf sheet)) left′ given′ k
     ≡ planOf book sheet before by b) × (length (planOf book sheet before by b) ≤ nodes * nodes)
 unfolding planPart
 plan-steps {book} {sheet} before by lent traced =
-    let same = traced-all (nodePart levels (treeOf book) (rowsOf sheet)) (rw (search-names before, search-names by) at traced) in
+    let same = traced-all (nodePart levels (treeOf book) (rowsOf sheet)) traced in
     let short = steps-short (lent .well-formed .sound) (rowsOf sheet) (lent .true-sheet .rows) (lent .fresh) (traced .steps) in
     (same, omega (arith, short, ap length same))

@@ -8,8 +8,10 @@ use native.Mathlib.Omega.{arith}
 use native.Mathlib.Numerals.{add-one}
 use lib.ListN.{length, getD, set, length-set}
 use lib.Seq.{getD-set-same, getD-set-other}
-use Rattle.definitions.specs.Limits.{nodes, commands, longestChain}
+use Rattle.definitions.specs.Limits.{nodes, commands, longestChain, absent}
+use Rattle.definitions.specs.Book.{word}
 use Rattle.definitions.proofs.Options.{equal-or-not, some-same}
+use Rattle.definitions.proofs.Words.{present-word, absent-word}
 use Rattle.plantheory.specs.Expand.{chainPart}
 use Rattle.plantheory.proofs.Chain.{chain-first, chain-next}
 use Rattle.expanding.specs.Names.{Traceable}
@@ -107,8 +109,15 @@ module _ {before by : ℕ → Option ℕ} {n j : ℕ} {left given : List ℕ} wh
     pub tracing-room : {u : ℕ} → before v ≡ some u → k < nodes
     tracing-room e = let (next, same) = traceable-next before by (now .ahead) e in omega (arith, now .room, same)
 
+    -- a word other than the one for absent names the next node, and the one for absent says that there is none
+    pub tracing-next : {w : ℕ} → w ≡ word (before v) → (w ≡ absent → ⊥) → before v ≡ some w
+    tracing-next = present-word (before v)
+
+    pub tracing-over : {w : ℕ} → w ≡ word (before v) → w ≡ absent → before v ≡ none
+    tracing-over = absent-word (before v) (λ u e. omega (arith, traceable-name before by (now .ahead) e .0))
+
     -- the step is noted, and its node is the next
-    pub tracing-more : {u x : ℕ} → before v ≡ some u → by v ≡ some x
+    tracing-more : {u x : ℕ} → before v ≡ some u → by v ≡ some x
         → Tracing before by n j left given u (k + 1) (set left′ k u) (set given′ k x)
     tracing-more {u} {x} e f =
         let (next, same) = traceable-next before by (now .ahead) e in
@@ -131,6 +140,14 @@ module _ {before by : ℕ → Option ℕ} {n j : ℕ} {left given : List ℕ} wh
               (chain-next before by part (next .ended) (next .steps) nodes (omega (arith, next .short)) (next .way) e f))
               ∙ now .whole part;
         })
+
+    -- and so it is where the command is read
+    pub tracing-noted : {u x : ℕ} {left″ given″ : List ℕ} → before v ≡ some u → x ≡ word (by v) → left″ ≡ set left′ k u → given″ ≡ set given′ k x
+        → Tracing before by n j left given u (k + 1) left″ given″
+    unfolding word
+    tracing-noted e same noted also =
+        let (y, named, range) = traceable-name before by (now .ahead) e .1 in
+        rw (noted, also) (tracing-more e (named ∙ ap some (sym (same ∙ ap word named))))
 
     -- where the names begin all steps are noted
     pub tracing-done : before v ≡ none → Traced before by n j left given k left′ given′

@@ -2,25 +2,18 @@
 // the names that a search leaves and those of a true sheet.
 ghost use mathlib.Core.Path.{_≡_};
 ghost use mathlib.Core.List.{[], _∷_, _++_};
-ghost use Prim.Native.Nat.{_+_, _*_, _≤_, _<_};
-ghost use lib.ListN.{length, getD, drop};
-ghost use Rattle.definitions.specs.Limits.{nodes, commands, longestChain};
-ghost use Rattle.definitions.specs.Book.{treeOf};
+ghost use Prim.Native.Nat.{_+_, _≤_, _<_};
+ghost use lib.ListN.{length, getD, set, drop};
+ghost use Rattle.definitions.specs.Limits.{nodes, commands, sheetLength, longestChain};
+ghost use Rattle.definitions.specs.Book.{word, treeOf};
 ghost use Rattle.definitions.specs.Sheet.{rowsOf};
 ghost use Rattle.plantheory.specs.Expand.{nodePart};
 ghost use Rattle.search.specs.Search.{nameOf};
-ghost use Rattle.expanding.specs.Names.{Traceable, Spaced, nameAt};
+ghost use Rattle.expanding.specs.Names.{Traceable};
 ghost use Rattle.expanding.specs.Expanding.{Fresh, planOf, leavePart, stepsPart, Steps, Traced, Opens, Written};
 
 // How many levels there are.
 const LEVELS: u32 = 8;
-
-// Where a sheet's words for the nodes before and for the commands before begin, and how far apart those of two nodes stand.
-const BEFORE: usize = 2113;
-
-const BY: usize = 2114;
-
-const ROW: usize = 3;
 
 // The number at place i of a list.
 fn word(list: &[u32], i: u32) -> u32
@@ -30,38 +23,58 @@ fn word(list: &[u32], i: u32) -> u32
     list[i as usize]
 }
 
-// The word for node v in a list where the words of nodes stand some places apart.
-fn name(list: &[u32], apart: usize, v: u32) -> u32
-    requires { ⌜ apart * v < length (now list) ⌝ }
-    ensures { λ r. ⌜ r ≡ getD (now (list .entry)) (apart * v) 0 ⌝ }
+// The word for node v in a list of a search's names.
+fn name(list: &[u32], v: u32) -> u32
+    requires { ⌜ (length (now list) ≡ nodes) × (v < nodes) ⌝ }
+    ensures { λ r. ⌜ r ≡ word (nameOf nodes (now (list .entry)) v) ⌝ }
 {
-    list[apart * (v as usize)]
+    list[v as usize]
 }
 
-// Adds to the j steps in the lists those by which the names lead to node n, the last first; how many there are then.
-fn trace(
-    before: &[u32],
-    by: &[u32],
-    apart: usize,
-    n: u32,
-    j: u32,
-    left: &mut [u32],
-    given: &mut [u32],
-) -> u32
-    requires { ⌜ Spaced apart (now before) × Spaced apart (now by) × Traceable (nameAt apart (now before)) (nameAt apart (now by)) n
+// Notes a step after the k that stand in the lists: node u is left by command x.
+fn note(left: &mut [u32], given: &mut [u32], k: u32, u: u32, x: u32)
+    requires { ⌜ (k < length (now left)) × (k < length (now given)) ⌝ }
+    ensures { λ r. ⌜ (now (left .exit) ≡ set (now (left .entry)) k u) × (now (given .exit) ≡ set (now (given .entry)) k x) ⌝ }
+{
+    left[k as usize] = u;
+    given[k as usize] = x;
+}
+
+// Adds to the j steps in the lists those by which a search's names lead to node n, the last first; how many there are then.
+fn trace(before: &[u32], by: &[u32], n: u32, j: u32, left: &mut [u32], given: &mut [u32]) -> u32
+    requires { ⌜ (length (now before) ≡ nodes) × (length (now by) ≡ nodes) × Traceable (nameOf nodes (now before)) (nameOf nodes (now by)) n
         × Steps (now left) (now given) j × (j + longestChain ≤ nodes) ⌝ }
-    ensures { λ k. ⌜ Traced (nameAt apart (now (before .entry))) (nameAt apart (now (by .entry))) n j (now (left .entry)) (now (given .entry))
+    ensures { λ k. ⌜ Traced (nameOf nodes (now (before .entry))) (nameOf nodes (now (by .entry))) n j (now (left .entry)) (now (given .entry))
         k (now (left .exit)) (now (given .exit)) ⌝ }
 {
     let mut v = n;
     let mut k = j;
     loop {
-        let u = name(before, apart, v);
+        let u = name(before, v);
         if u == book::ABSENT {
             return k;
         }
-        left[k as usize] = u;
-        given[k as usize] = name(by, apart, v);
+        note(left, given, k, u, name(by, v));
+        k += 1;
+        v = u;
+    }
+}
+
+// The same by a sheet's names.
+fn trace_rows(sheet: &[u32], n: u32, j: u32, left: &mut [u32], given: &mut [u32]) -> u32
+    requires { ⌜ (length (now sheet) ≡ sheetLength) × Traceable (rowsOf (now sheet) .before) (rowsOf (now sheet) .by) n
+        × Steps (now left) (now given) j × (j + longestChain ≤ nodes) ⌝ }
+    ensures { λ k. ⌜ Traced (rowsOf (now (sheet .entry)) .before) (rowsOf (now (sheet .entry)) .by) n j (now (left .entry)) (now (given .entry))
+        k (now (left .exit)) (now (given .exit)) ⌝ }
+{
+    let mut v = n;
+    let mut k = j;
+    loop {
+        let u = sheet::before(sheet, v);
+        if u == book::ABSENT {
+            return k;
+        }
+        note(left, given, k, u, sheet::by(sheet, v));
         k += 1;
         v = u;
     }
@@ -87,9 +100,8 @@ fn open_node(
     if u == book::ABSENT {
         return 0;
     }
-    left[0] = u;
-    given[0] = x;
-    trace(&sheet[BEFORE..], &sheet[BY..], ROW, u, 1, left, given)
+    note(left, given, 0, u, x);
+    trace_rows(sheet, u, 1, left, given)
 }
 
 // Writes command x; the place after it.
@@ -182,7 +194,7 @@ pub fn expand(
 {
     let mut left = [0u32; 256];
     let mut given = [0u32; 256];
-    let count = trace(before, by, 1, b, 0, &mut left, &mut given);
+    let count = trace(before, by, b, 0, &mut left, &mut given);
     let end = expand_path(book, sheet, LEVELS, &left, &given, count, buffer, 0);
     end as u32
 }

@@ -1,54 +1,27 @@
--- The rows of a table written one after the other: the book of the first n rows, with row n written, is the book of n + 1 rows.
+-- The rows of a table written one after the other: the tree of the first n rows, with what row n says written, is the tree of n + 1 rows.
 -- Assumes nothing.
-use mathlib.Core.Path.{_≡_, refl, sym, _∙_, ap, ap₂}
+use mathlib.Core.Path.{_≡_, refl, sym, _∙_, ap, fun-ext}
 use mathlib.Core.Logic.{⊎-elim}
-use mathlib.Core.Bool.{Bool, true, false, cond, _&&_}
+use mathlib.Core.Bool.{Bool, true, false, cond, _&&_, and-true, and-false}
 use mathlib.Core.Option.{Option, none, some}
 use mathlib.Core.List.{List}
-use Prim.Native.Nat.{ℕ, zero, suc, _+_, _*_, _≤_, _<_}
+use Prim.Native.Nat.{ℕ, zero, suc, _≤_, _<_}
 use native.Mathlib.Omega.{arith}
 use lib.Dec.{eqb, ltb}
 use borrow.Author.Tests.{ltb-true, ltb-false, lt-ltb, le-ltb, eq-eqb, ne-eqb}
-use Rattle.definitions.specs.Basics.{isAt}
-use Rattle.definitions.specs.Limits.{machines, nodes, costs, absent}
+use Rattle.definitions.specs.Basics.{isAt, put}
+use Rattle.definitions.specs.Limits.{machines, nodes, absent}
 use Rattle.definitions.specs.Tree.{Tree, Transition}
-use Rattle.definitions.specs.Book.{word, transitionWord, under, encode, machineField, nodeField, machineFields}
-use Rattle.definitions.proofs.Options.{equal-or-not, isAt-some, bind-some}
-use Rattle.definitions.proofs.Words.{under-in, word-number, same-tree}
-use Rattle.opening.specs.Table.{lastUnder, cell, rowOwner, rowBelow, rowStart, nextLower, neighbour, linked, grown, noTree}
-use Rattle.opening.specs.Writes.{setMachine, setNode, setHolder, setStart, setLink}
-use Rattle.opening.proofs.Last.{last-pass, last-skip, last-none, last-under}
+use Rattle.definitions.specs.Book.{word, number, under, treeOf}
+use Rattle.definitions.specs.Edit.{withTransition}
+use Rattle.definitions.specs.Open.{lastUnder, cell, rowOwner, rowBelow, rowStart, nextLower, neighbour, linked, grown}
+use Rattle.definitions.proofs.Options.{equal-or-not, put-same, put-other, bind-some, isAt-some, isAt-other}
+use Rattle.definitions.proofs.Words.{under-in}
+use Rattle.book.specs.Fields.{Holds, withOwner, withBelow}
+use Rattle.book.proofs.Stores.{holds-then}
+use Rattle.opening.specs.Writes.{withHeld, withStarted, withLinks}
+use Rattle.opening.proofs.Last.{last-pass, last-skip, last-under}
 use Rattle.opening.proofs.Reading.{says}
-use Rattle.opening.proofs.Stores.{SameNodes, machine-fields, node-fields, machine-store, node-store, encode-same}
-
--- ---- the tree on the way from n rows to n + 1
-
--- the transitions that the first l rows have to lower nodes, and the first u rows to higher ones
-links : List ℕ → ℕ → ℕ → ℕ → ℕ → Option Transition
-links rows l u n zero = linked rows l n zero
-links rows l u n (suc x) = linked rows u n (suc x)
-
--- the owners of the first a rows, the machines below of b, the holders of h, the starts of s, the transitions of l and u
-stage : List ℕ → ℕ → ℕ → ℕ → ℕ → ℕ → ℕ → Tree
-unfolding grown
-stage rows a b h s l u =
-    record {
-      root = absent;
-      owner = grown rows a .owner;
-      below = grown rows b .below;
-      start = grown rows s .start;
-      holder = grown rows h .holder;
-      transition = λ n x. links rows l u n x;
-    }
-
--- where all have come as far, it is the tree of that many rows
-stage-grown : (rows : List ℕ) (k : ℕ) → stage rows k k k k k k ≡ grown rows k
-unfolding stage grown links
-stage-grown rows k = same-tree (stage rows k k k k k k) (grown rows k) refl (λ n. refl) (λ n. refl) (λ m. refl) (λ m. refl) transition
-  where
-    transition : (n x : ℕ) → links rows k k n x ≡ linked rows k n x
-    transition n zero = refl
-    transition n (suc x) = refl
 
 -- ---- one row more
 
@@ -57,62 +30,67 @@ pub under-out : {A : Type 0} (k n : ℕ) (o : Option A) → k ≤ n → under k 
 unfolding under
 under-out k n o h = rw (le-ltb n k h)
 
--- under one row more, another row is as it was
-under-other : {A : Type 0} (k n : ℕ) (o : Option A) → (n ≡ k → ⊥) → under k n o ≡ under (suc k) n o
-unfolding under
-under-other k n o h = go (ltb n k) refl
-  where
-    go : (b : Bool) → ltb n k ≡ b → cond b o none ≡ cond (ltb n (suc k)) o none
-    go true e = rw (lt-ltb n (suc k) (omega (arith, ltb-true n k e)))
-    go false e = rw (le-ltb n (suc k) (omega (arith, ltb-false n k e, h)))
-
--- a machine's word at place k that names the last node that claims it: a node that claims machine w, where it claims one, is written
-claim : (t u : Tree) (k n w : ℕ) (b : Bool) (P : ℕ → ℕ → Bool) → k < machineFields → t .root ≡ u .root → SameNodes t u
-    → ((p j : ℕ) → j < machineFields → (j ≡ k → ⊥) → machineField t p j ≡ machineField u p j)
-    → ((p : ℕ) → machineField t p k ≡ word (lastUnder n (λ j. P j p)))
-    → ((p : ℕ) → machineField u p k ≡ word (lastUnder (suc n) (λ j. P j p)))
-    → ((p : ℕ) → p < machines → P n p ≡ (b && eqb w p))
-    → cond (b && ltb w machines) (setMachine (encode t) w k n) (encode t) ≡ encode u
-unfolding word
-claim t u k n w b P hk root nodes′ others old new here = go b refl (ltb w machines) refl
-  where
-    -- machine p's word is as it was, where row n does not claim p
-    kept : (p : ℕ) → P n p ≡ false → machineField t p k ≡ machineField u p k
-    kept p e = old p ∙ ap word (sym (last-skip n (λ j. P j p) e)) ∙ sym (new p)
-
-    same : ((p : ℕ) → p < machines → P n p ≡ false) → encode t ≡ encode u
-    same e =
-        encode-same t u root
-        (λ p j hp hj.
-        ⊎-elim (λ at. rw at (kept p (e p hp))) (λ other. others p j hj other) (equal-or-not j k))
-        nodes′
-
-    go : (c : Bool) → b ≡ c → (d : Bool) → ltb w machines ≡ d
-        → cond (c && d) (setMachine (encode t) w k n) (encode t) ≡ encode u
-    go false eb d ed = same (λ p hp. here p hp ∙ ap (λ (c : Bool). c && eqb w p) eb)
-    go true eb false ed =
-        same (λ p hp. here p hp ∙ ap (λ (c : Bool). c && eqb w p) eb ∙ ne-eqb w p (λ e. omega (arith, ltb-false w machines ed)))
-    go true eb true ed =
-        let hw : w < machines = ltb-true w machines ed in
-        let mine : P n w ≡ true = here w hw ∙ ap (λ (c : Bool). c && eqb w w) eb ∙ eq-eqb w w refl in
-        let written : machineField u w k ≡ n = new w ∙ ap word (last-pass n (λ j. P j w) mine) in
-        ap (setMachine (encode t) w k) (sym written)
-        ∙ machine-store t u w k hw hk root
-        (λ p j hp hj other.
-        ⊎-elim
-        (λ at. rw at (kept p (here p hp ∙ ap (λ (c : Bool). c && eqb w p) eb ∙ ne-eqb w p (λ e. other (sym e) at))))
-        (λ elsewhere. others p j hj elsewhere)
-        (equal-or-not j k))
-        nodes′
-
--- what is not there is not there under any limit
-under-none : {A : Type 0} (k n : ℕ) → under {A = A} k n none ≡ none
+-- nor is there what is not there, under any limit
+pub under-none : {A : Type 0} (k n : ℕ) → under {A = A} k n none ≡ none
 unfolding under
 under-none {A} k n = go (ltb n k)
   where
     go : (b : Bool) → _≡_ {A = Option A} (cond b none none) none
     go true = refl
     go false = refl
+
+-- what the first k rows say, with what row k says, is what the first k + 1 rows say
+under-more : {A : Type 0} (f : ℕ → Option A) (k n : ℕ) → put (λ i. under k i (f i)) k (f k) n ≡ under (suc k) n (f n)
+unfolding under
+under-more f k n =
+    ⊎-elim (λ e. rw (eq-eqb n k e, lt-ltb n (suc k) (omega arith)) (ap f (sym e)))
+    (λ other. rw (ne-eqb n k other) (go other (ltb n k) refl)) (equal-or-not n k)
+  where
+    go : (n ≡ k → ⊥) → (b : Bool) → ltb n k ≡ b → cond b (f n) none ≡ cond (ltb n (suc k)) (f n) none
+    go other true e = rw (lt-ltb n (suc k) (omega (arith, ltb-true n k e)))
+    go other false e = rw (le-ltb n (suc k) (omega (arith, ltb-false n k e, other)))
+
+-- what is read under a limit is the same where it is so below the limit
+under-same : {A : Type 0} (limit i : ℕ) (o p : Option A) → (i < limit → o ≡ p) → under limit i o ≡ under limit i p
+unfolding under
+under-same limit i o p same = go (ltb i limit) refl
+  where
+    go : (b : Bool) → ltb i limit ≡ b → cond b o none ≡ cond b p none
+    go true e = same (ltb-true i limit e)
+    go false e = refl
+
+-- the last of the first k nodes that claim a machine
+abbrev claims : (ℕ → ℕ → Bool) → ℕ → ℕ → Option ℕ
+claims P k m = under machines m (lastUnder k (λ j. P j m))
+
+-- node n, where it claims machine w, is the last of the first n + 1 that claim w
+claim : (n w : ℕ) (b : Bool) (P : ℕ → ℕ → Bool) → ((p : ℕ) → p < machines → P n p ≡ (b && eqb w p))
+    → (m : ℕ) → cond (b && ltb w machines) (put (claims P n) w (some n)) (claims P n) m ≡ claims P (suc n) m
+claim n w b P here m = go b refl (ltb w machines) refl
+  where
+    -- machine m has the one that it had, where node n does not claim it
+    same : (m < machines → P n m ≡ false) → claims P n m ≡ claims P (suc n) m
+    same e =
+        under-same machines m (lastUnder n (λ j. P j m)) (lastUnder (suc n) (λ j. P j m)) (λ hm. sym (last-skip n (λ j. P j m) (e hm)))
+
+    go : (c : Bool) → b ≡ c → (d : Bool) → ltb w machines ≡ d → cond (c && d) (put (claims P n) w (some n)) (claims P n) m ≡ claims P (suc n) m
+    go false eb d ed = same (λ hm. here m hm ∙ ap (λ (c : Bool). c && eqb w m) eb)
+    go true eb false ed =
+        same (λ hm. here m hm ∙ ap (λ (c : Bool). c && eqb w m) eb ∙ ne-eqb w m (λ e. omega (arith, ltb-false w machines ed)))
+    go true eb true ed =
+        let hw : w < machines = ltb-true w machines ed in
+        let mine : P n w ≡ true = here w hw ∙ ap (λ (c : Bool). c && eqb w w) eb ∙ eq-eqb w w refl in
+        ⊎-elim
+        (λ e.
+        rw e
+        (put-same (claims P n) w (some n)
+        ∙ sym (under-in machines w (lastUnder (suc n) (λ j. P j w)) hw ∙ last-pass n (λ j. P j w) mine)))
+        (λ other.
+        put-other (claims P n) w (some n) m other
+        ∙ same (λ hm. here m hm ∙ ap (λ (c : Bool). c && eqb w m) eb ∙ ne-eqb w m (λ e. other (sym e))))
+        (equal-or-not m w)
+
+-- ---- the transitions between a node and its next lower node
 
 -- the next lower node is lower
 lower-under : (rows : List ℕ) (n w : ℕ) → nextLower rows n ≡ some w → w < n
@@ -121,155 +99,153 @@ lower-under rows n w e =
     let found = bind-some (rowOwner rows n) (λ m. lastUnder n (λ j. isAt (rowOwner rows j) m)) e in
     last-under n (λ j. isAt (rowOwner rows j) (found .0)) w (found .2)
 
-module _ (rows : List ℕ) (n : ℕ) (hn : n < nodes) where
-  -- the owner of row n is written
-  owner-row : (b h s l u : ℕ) → setNode (encode (stage rows n b h s l u)) n 0 (cell rows n 0) ≡ encode (stage rows (suc n) b h s l u)
-  unfolding stage grown rowOwner
-  owner-row b h s l u =
-      let t = stage rows n b h s l u in
-      let v = stage rows (suc n) b h s l u in
-      let written : word (under (suc n) n (rowOwner rows n)) ≡ cell rows n 0 =
-      ap word (under-in (suc n) n (rowOwner rows n) (omega arith)) ∙ word-number (cell rows n 0) in
-      ap (setNode (encode t) n 0) (sym written)
-      ∙ node-store t v n 0 hn (omega arith) refl (λ p j hp hj. machine-fields t v p j hj (λ _. refl) (λ _. refl))
-      (λ q j hq hj other.
-      node-fields t v q j (λ e. under-other n q (rowOwner rows q) (λ a. other a e)) (λ _. refl) (λ x _. refl))
+-- what a node has for a command, where v is put at node n and x
+grid-put : {A : Type 0} (f : ℕ → ℕ → A) (n x : ℕ) (v : A) (m y : ℕ) → put f n (put (f n) x v) m y ≡ cond (eqb m n && eqb y x) v (f m y)
+grid-put f n x v m y = ⊎-elim (λ e. rw (eq-eqb m n e, e)) (λ other. rw (ne-eqb m n other)) (equal-or-not m n)
 
-  -- the machine below of row n is written
-  below-row : (a h s l u : ℕ) → setNode (encode (stage rows a n h s l u)) n 1 (cell rows n 1) ≡ encode (stage rows a (suc n) h s l u)
-  unfolding stage grown rowBelow
-  below-row a h s l u =
-      let t = stage rows a n h s l u in
-      let v = stage rows a (suc n) h s l u in
-      let written : word (under (suc n) n (rowBelow rows n)) ≡ cell rows n 1 =
-      ap word (under-in (suc n) n (rowBelow rows n) (omega arith)) ∙ word-number (cell rows n 1) in
-      ap (setNode (encode t) n 1) (sym written)
-      ∙ node-store t v n 1 hn (omega arith) refl (λ p j hp hj. machine-fields t v p j hj (λ _. refl) (λ _. refl))
-      (λ q j hq hj other.
-      node-fields t v q j (λ _. refl) (λ e. under-other n q (rowBelow rows q) (λ a. other a e)) (λ x _. refl))
+-- transitions f with those between node n and its lower node l
+abbrev joined : (ℕ → ℕ → Option Transition) → ℕ → ℕ → ℕ → ℕ → Option Transition
+joined f n l =
+    let up : ℕ → ℕ → Option Transition = put f n (put (f n) 0 (neighbour (some l))) in
+    put up l (put (up l) 1 (neighbour (some n)))
 
-  -- node n is written as the holder of the machine below it
-  holder-row : (a b s l u : ℕ) → setHolder (encode (stage rows a b n s l u)) n (cell rows n 1) ≡ encode (stage rows a b (suc n) s l u)
-  unfolding stage grown rowBelow
-  holder-row a b s l u =
-      let t = stage rows a b n s l u in
-      let v = stage rows a b (suc n) s l u in
-      claim t v 0 n (cell rows n 1) true (λ j p. isAt (rowBelow rows j) p) (omega arith) refl
-      (λ q j hq hj. node-fields t v q j (λ _. refl) (λ _. refl) (λ x _. refl))
-      (λ p j hj other. machine-fields t v p j hj (λ e. absurd (other e)) (λ _. refl))
-      (λ p. refl) (λ p. refl) (λ p hp. says (cell rows n 1) p (λ e. omega arith))
+joined-at : (f : ℕ → ℕ → Option Transition) (n l m x : ℕ)
+    → joined f n l m x ≡ cond (eqb m l && eqb x 1) (neighbour (some n)) (cond (eqb m n && eqb x 0) (neighbour (some l)) (f m x))
+joined-at f n l m x =
+    grid-put (put f n (put (f n) 0 (neighbour (some l)))) l 1 (neighbour (some n)) m x
+    ∙ ap (cond (eqb m l && eqb x 1) (neighbour (some n))) (grid-put f n 0 (neighbour (some l)) m x)
 
-  -- node n is written as the start of its machine, where its row says so
-  start-row : (a b h l u : ℕ)
-      → setStart (encode (stage rows a b h n l u)) n (cell rows n 0) (cell rows n 2) ≡ encode (stage rows a b h (suc n) l u)
-  unfolding stage grown rowOwner rowStart
-  start-row a b h l u =
-      let t = stage rows a b h n l u in
-      let v = stage rows a b h (suc n) l u in
-      claim t v 1 n (cell rows n 0) (rowStart rows n) (λ j p. rowStart rows j && isAt (rowOwner rows j) p) (omega arith) refl
-      (λ q j hq hj. node-fields t v q j (λ _. refl) (λ _. refl) (λ x _. refl))
-      (λ p j hj other. machine-fields t v p j hj (λ _. refl) (λ e. absurd (other e)))
-      (λ p. refl) (λ p. refl) (λ p hp. ap (λ (c : Bool). rowStart rows n && c) (says (cell rows n 0) p (λ e. omega arith)))
-
-  -- the transition to a lower node is as it was for another node, and where there is no lower node
-  lower-kept : (q : ℕ) → (q ≡ n → nextLower rows q ≡ none) → linked rows n q 0 ≡ linked rows (suc n) q 0
+module _ (rows : List ℕ) (n : ℕ) where
+  -- another node goes down as it did
+  lower-kept : (m : ℕ) → (m ≡ n → ⊥) → linked rows n m 0 ≡ linked rows (suc n) m 0
   unfolding linked
-  lower-kept q h =
-      ap neighbour
-      (⊎-elim (λ e. rw (h e) (under-none n q ∙ sym (under-none (suc n) q))) (under-other n q (nextLower rows q)) (equal-or-not q n))
+  lower-kept m other =
+      ap neighbour (sym (put-other (λ i. under n i (nextLower rows i)) n (nextLower rows n) m other) ∙ under-more (nextLower rows) n m)
 
-  -- the transition to a higher node is as it was, where node n is not that node
-  higher-kept : (q : ℕ) → isAt (nextLower rows n) q ≡ false → linked rows n q 1 ≡ linked rows (suc n) q 1
+  -- node n goes down to its next lower node
+  lower-new : (m : ℕ) → m ≡ n → linked rows (suc n) m 0 ≡ neighbour (nextLower rows n)
   unfolding linked
-  higher-kept q e =
-      let p : ℕ → Bool = λ v. isAt (nextLower rows v) q in
-      ap neighbour (sym (last-skip n p e))
+  lower-new m at = ap neighbour (under-in (suc n) m (nextLower rows m) (omega arith) ∙ ap (nextLower rows) at)
 
-  -- the transitions between node n and its next lower node are written
-  link-row : (a b h s : ℕ)
-      → setLink (encode (stage rows a b h s n n)) n (word (nextLower rows n)) ≡ encode (stage rows a b h s (suc n) (suc n))
-  unfolding stage links linked neighbour transitionWord word
-  link-row a b h s = go (nextLower rows n) refl
-    where
-      before : Tree
-      before = stage rows a b h s n n
+  -- where there is no lower node the transitions are as they were
+  unlinked : nextLower rows n ≡ none → (m x : ℕ) → linked rows n m x ≡ linked rows (suc n) m x
+  unfolding linked
+  unlinked e m zero =
+      ⊎-elim (λ at. ap neighbour (under-out n m (nextLower rows m) (omega arith) ∙ sym e) ∙ sym (lower-new m at)) (lower-kept m)
+      (equal-or-not m n)
+  unlinked e m (suc zero) = ap neighbour (sym (last-skip n (λ v. isAt (nextLower rows v) m) (rw e)))
+  unlinked e m (suc (suc x)) = refl
 
-      between : Tree
-      between = stage rows a b h s (suc n) n
+  -- and else those between the two nodes are put
+  relinked : (w : ℕ) → nextLower rows n ≡ some w → (m x : ℕ) → joined (linked rows n) n w m x ≡ linked rows (suc n) m x
+  unfolding linked
+  relinked w e m zero =
+      joined-at (linked rows n) n w m 0
+      ∙ rw (and-false (eqb m w), and-true (eqb m n))
+      (⊎-elim (λ at. rw (eq-eqb m n at) (ap neighbour (sym e) ∙ sym (lower-new m at)))
+      (λ other. rw (ne-eqb m n other) (lower-kept m other)) (equal-or-not m n))
+  relinked w e m (suc zero) =
+      let p : ℕ → Bool = λ v. isAt (nextLower rows v) m in
+      joined-at (linked rows n) n w m 1
+      ∙ rw (and-false (eqb m n), and-true (eqb m w))
+      (⊎-elim (λ at. rw (eq-eqb m w at) (ap neighbour (sym (last-pass n p (isAt-some w m e (sym at))))))
+      (λ other. rw (ne-eqb m w other) (ap neighbour (sym (last-skip n p (isAt-other w m e (λ a. other (sym a)))))))
+      (equal-or-not m w))
+  relinked w e m (suc (suc x)) =
+      joined-at (linked rows n) n w m (suc (suc x))
+      ∙ rw (ne-eqb (suc (suc x)) 1 (omega arith), ne-eqb (suc (suc x)) 0 (omega arith), and-false (eqb m w), and-false (eqb m n))
 
-      after : Tree
-      after = stage rows a b h s (suc n) (suc n)
+-- ---- a row is written
 
-      neither : nextLower rows n ≡ none → (q x : ℕ) → links rows n n q x ≡ links rows (suc n) (suc n) q x
-      neither e q zero = lower-kept q (λ at. rw at e)
-      neither e q (suc zero) = higher-kept q (rw e)
-      neither e q (suc (suc x)) = refl
+-- a tree that has no root yet, of its fields
+abbrev rootless : (owner below start holder : ℕ → Option ℕ) → (ℕ → ℕ → Option Transition) → Tree
+rootless owner below start holder transition =
+    record {
+      root = absent;
+      owner = owner;
+      below = below;
+      start = start;
+      holder = holder;
+      transition = transition;
+    }
 
-      first : (w : ℕ) → nextLower rows n ≡ some w → setNode (encode before) n 2 (w * costs + 1) ≡ encode between
-      first w e =
-          let written : nodeField between n 2 ≡ w * costs + 1 =
-          ap (λ (o : Option ℕ). transitionWord (neighbour o)) (under-in (suc n) n (nextLower rows n) (omega arith) ∙ e) in
-          ap (setNode (encode before) n 2) (sym written)
-          ∙ node-store before between n 2 hn (omega arith) refl
-          (λ p j hp hj. machine-fields before between p j hj (λ _. refl) (λ _. refl))
-          (λ q j hq hj other. node-fields before between q j (λ _. refl) (λ _. refl) (λ x at. up q x (λ a b. other a (at ∙ b))))
-        where
-          up : (q x : ℕ) → (q ≡ n → suc (suc x) ≡ 2 → ⊥) → links rows n n q x ≡ links rows (suc n) n q x
-          up q zero other = lower-kept q (λ a. absurd (other a refl))
-          up q (suc zero) other = refl
-          up q (suc (suc x)) other = refl
+-- a book that holds a tree holds the same tree said otherwise
+holds-as : {ws : List ℕ} {t u : Tree} → t ≡ u → Holds ws t → Holds ws u
+holds-as same held = record { length = held .length; tree = held .tree ∙ same }
 
-      second : (w : ℕ) → nextLower rows n ≡ some w → w < nodes → setNode (encode between) w 3 (n * costs + 1) ≡ encode after
-      second w e hw =
-          let p : ℕ → Bool = λ v. isAt (nextLower rows v) w in
-          let mine : isAt (nextLower rows n) w ≡ true = isAt-some w w e refl in
-          let written : nodeField after w 3 ≡ n * costs + 1 =
-          ap (λ (o : Option ℕ). transitionWord (neighbour o))
-          (last-pass n p mine) in
-          ap (setNode (encode between) w 3) (sym written)
-          ∙ node-store between after w 3 hw (omega arith) refl
-          (λ p j hp hj. machine-fields between after p j hj (λ _. refl) (λ _. refl))
-          (λ q j hq hj other. node-fields between after q j (λ _. refl) (λ _. refl) (λ x at. up q x (λ a b. other a (at ∙ b))))
-        where
-          up : (q x : ℕ) → (q ≡ w → suc (suc x) ≡ 3 → ⊥) → links rows (suc n) n q x ≡ links rows (suc n) (suc n) q x
-          up q zero other = refl
-          up q (suc zero) other = higher-kept q (rw e (ne-eqb w q (λ a. other (sym a) refl)))
-          up q (suc (suc x)) other = refl
+-- a choice between values of a function is the function's value at the choice
+cond-of : {A B : Type 0} (f : A → B) (b : Bool) (x y : A) → cond b (f x) (f y) ≡ f (cond b x y)
+cond-of f true x y = refl
+cond-of f false x y = refl
 
-      go : (o : Option ℕ) → nextLower rows n ≡ o → setLink (encode before) n (word o) ≡ encode after
-      go none e =
-          encode-same before after refl (λ p j hp hj. machine-fields before after p j hj (λ _. refl) (λ _. refl))
-          (λ q j hq hj. node-fields before after q j (λ _. refl) (λ _. refl) (λ x _. neither e q x))
-      go (some w) e =
-          let hw : w < nodes = omega (arith, lower-under rows n w e) in
-          rw (lt-ltb w nodes hw) (ap (λ (ws : List ℕ). setNode ws w 3 (n * costs + 1)) (first w e) ∙ second w e hw)
+module _ (rows : List ℕ) where
+  -- the fields of the first k rows
+  abbrev owners : ℕ → ℕ → Option ℕ
+  owners k n = under k n (rowOwner rows n)
 
-  -- row n is written, one word or two after the other
-  pub row-written : (o b s l : ℕ) (w₀ w₁ w₂ w₃ w₄ w₅ : List ℕ) → o ≡ cell rows n 0 → b ≡ cell rows n 1 → s ≡ cell rows n 2
-      → l ≡ word (nextLower rows n) → w₀ ≡ encode (grown rows n) → w₁ ≡ setNode w₀ n 0 o → w₂ ≡ setNode w₁ n 1 b
-      → w₃ ≡ setHolder w₂ n b → w₄ ≡ setStart w₃ n o s → w₅ ≡ setLink w₄ n l → w₅ ≡ encode (grown rows (suc n))
-  row-written o b s l w₀ w₁ w₂ w₃ w₄ w₅ eo eb es el begun owner below holder start link =
-      let e₀ = begun ∙ ap encode (sym (stage-grown rows n)) in
-      let e₁ = owner ∙ ap₂ (λ (ws : List ℕ) (v : ℕ). setNode ws n 0 v) e₀ eo ∙ owner-row n n n n n in
-      let e₂ = below ∙ ap₂ (λ (ws : List ℕ) (v : ℕ). setNode ws n 1 v) e₁ eb ∙ below-row (suc n) n n n n in
-      let e₃ = holder ∙ ap₂ (λ (ws : List ℕ) (v : ℕ). setHolder ws n v) e₂ eb ∙ holder-row (suc n) (suc n) n n n in
-      let e₄ = start ∙ ap₂ (λ (ws : List ℕ) (v : ℕ). setStart ws n v s) e₃ eo
-      ∙ ap (setStart (encode (stage rows (suc n) (suc n) (suc n) n n n)) n (cell rows n 0)) es
-      ∙ start-row (suc n) (suc n) (suc n) n n in
-      link ∙ ap₂ (λ (ws : List ℕ) (v : ℕ). setLink ws n v) e₄ el ∙ link-row (suc n) (suc n) (suc n) (suc n)
-      ∙ ap encode (stage-grown rows (suc n))
+  abbrev belows : ℕ → ℕ → Option ℕ
+  belows k n = under k n (rowBelow rows n)
 
--- with no row yet there is no machine and no node
-pub grown-none : (rows : List ℕ) → grown rows 0 ≡ noTree
-unfolding grown noTree linked neighbour
-grown-none rows =
-    same-tree (grown rows 0) noTree refl (λ n. under-out 0 n (rowOwner rows n) (omega arith))
-    (λ n. under-out 0 n (rowBelow rows n) (omega arith))
-    (λ m. last-none 0 (λ n. rowStart rows n && isAt (rowOwner rows n) m) (λ j h. absurd (omega arith)))
-    (λ m. last-none 0 (λ n. isAt (rowBelow rows n) m) (λ j h. absurd (omega arith)))
-    transition
-  where
-    transition : (n x : ℕ) → linked rows 0 n x ≡ none
-    transition n zero = ap neighbour (under-out 0 n (nextLower rows n) (omega arith))
-    transition n (suc zero) = ap neighbour (last-none 0 (λ v. isAt (nextLower rows v) n) (λ j h. absurd (omega arith)))
-    transition n (suc (suc x)) = refl
+  abbrev starts : ℕ → ℕ → Option ℕ
+  starts = claims (λ n m. rowStart rows n && isAt (rowOwner rows n) m)
+
+  abbrev holders : ℕ → ℕ → Option ℕ
+  holders = claims (λ n m. isAt (rowBelow rows n) m)
+
+  module _ (n : ℕ) (hn : n < nodes) where
+    -- the owner that row n says is written
+    owner-row : (b s h : ℕ → Option ℕ) (x : ℕ → ℕ → Option Transition) (w : ℕ) → w ≡ cell rows n 0
+        → withOwner (rootless (owners n) b s h x) n (number w) ≡ rootless (owners (suc n)) b s h x
+    unfolding rowOwner
+    owner-row b s h x w e = rw e (ap (λ f. rootless f b s h x) (fun-ext (under-more (rowOwner rows) n)))
+
+    -- the machine below
+    below-row : (o s h : ℕ → Option ℕ) (x : ℕ → ℕ → Option Transition) (w : ℕ) → w ≡ cell rows n 1
+        → withBelow (rootless o (belows n) s h x) n (number w) ≡ rootless o (belows (suc n)) s h x
+    unfolding rowBelow
+    below-row o s h x w e = rw e (ap (λ f. rootless o f s h x) (fun-ext (under-more (rowBelow rows) n)))
+
+    -- node n as the holder of that machine
+    holder-row : (o b s : ℕ → Option ℕ) (x : ℕ → ℕ → Option Transition) (w : ℕ) → w ≡ cell rows n 1
+        → withHeld (rootless o b s (holders n) x) n w ≡ rootless o b s (holders (suc n)) x
+    unfolding withHeld rowBelow
+    holder-row o b s x w e =
+        cond-of (λ f. rootless o b s f x) (ltb w machines) (put (holders n) w (some n)) (holders n)
+        ∙ ap (λ f. rootless o b s f x)
+        (fun-ext (claim n w true (λ j m. isAt (rowBelow rows j) m) (λ m hm. rw (← e) (says w m (omega arith)))))
+
+    -- node n as the start of its machine
+    start-row : (o b h : ℕ → Option ℕ) (x : ℕ → ℕ → Option Transition) (w v : ℕ) → w ≡ cell rows n 0 → v ≡ cell rows n 2
+        → withStarted (rootless o b (starts n) h x) n w v ≡ rootless o b (starts (suc n)) h x
+    unfolding withStarted rowOwner rowStart
+    start-row o b h x w v e f =
+        cond-of (λ g. rootless o b g h x) (eqb v 1 && ltb w machines) (put (starts n) w (some n)) (starts n)
+        ∙ ap (λ g. rootless o b g h x)
+        (fun-ext
+        (claim n w (eqb v 1) (λ j m. rowStart rows j && isAt (rowOwner rows j) m)
+        (λ m hm. rw (← e, ← f) (ap (_&&_ (eqb v 1)) (says w m (omega arith))))))
+
+    -- the transitions between node n and its next lower node
+    link-row : (o b s h : ℕ → Option ℕ) (w : ℕ) → w ≡ word (nextLower rows n)
+        → withLinks (rootless o b s h (linked rows n)) n w ≡ rootless o b s h (linked rows (suc n))
+    unfolding withLinks withTransition word
+    link-row o b s h w e = go (nextLower rows n) refl
+      where
+        go : (l : Option ℕ) → nextLower rows n ≡ l → withLinks (rootless o b s h (linked rows n)) n w ≡ rootless o b s h (linked rows (suc n))
+        go none f = rw (e, f) (ap (rootless o b s h) (fun-ext λ m. fun-ext λ x. unlinked rows n f m x))
+        go (some l) f =
+            rw (e, f, lt-ltb l nodes (omega (arith, lower-under rows n l f)))
+            (ap (rootless o b s h) (fun-ext λ m. fun-ext λ x. relinked rows n l f m x))
+
+    -- row n is written, one field or two after the other
+    pub row-written : (o b s l : ℕ) {w₀ w₁ w₂ w₃ w₄ w₅ : List ℕ} → o ≡ cell rows n 0 → b ≡ cell rows n 1 → s ≡ cell rows n 2
+        → l ≡ word (nextLower rows n) → Holds w₀ (grown rows n absent) → Holds w₁ (withOwner (treeOf w₀) n (number o))
+        → Holds w₂ (withBelow (treeOf w₁) n (number b)) → Holds w₃ (withHeld (treeOf w₂) n b) → Holds w₄ (withStarted (treeOf w₃) n o s)
+        → Holds w₅ (withLinks (treeOf w₄) n l) → Holds w₅ (grown rows (suc n) absent)
+    unfolding grown
+    row-written o b s l eo eb es el begun owner below holder start link =
+        let h₁ = holds-as (owner-row (belows n) (starts n) (holders n) (linked rows n) o eo) (holds-then (λ t. withOwner t n (number o)) begun owner) in
+        let h₂ = holds-as (below-row (owners (suc n)) (starts n) (holders n) (linked rows n) b eb) (holds-then (λ t. withBelow t n (number b)) h₁ below) in
+        let h₃ = holds-as (holder-row (owners (suc n)) (belows (suc n)) (starts n) (linked rows n) b eb) (holds-then (λ t. withHeld t n b) h₂ holder) in
+        let h₄ = holds-as (start-row (owners (suc n)) (belows (suc n)) (holders (suc n)) (linked rows n) o s eo es) (holds-then (λ t. withStarted t n o s) h₃ start) in
+        holds-as (link-row (owners (suc n)) (belows (suc n)) (starts (suc n)) (holders (suc n)) l el) (holds-then (λ t. withLinks t n l) h₄ link)

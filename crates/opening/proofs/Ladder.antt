@@ -13,14 +13,13 @@ use Rattle.definitions.specs.Basics.{isAt, isSome}
 use Rattle.definitions.specs.Limits.{machines, absent}
 use Rattle.definitions.specs.Book.{word, number, under}
 use Rattle.definitions.specs.Open.{given, ladderNodes, ladderMachines, ladderBelow, ladderHolder, ladderTransition, ladderTree}
+use Rattle.definitions.specs.Open.{rowLength, lastUnder, cell, rowOwner, rowBelow, rowStart, nextLower, neighbour, linked}
+use Rattle.definitions.specs.Open.{grown, free, rootOf, rowTree}
 use Rattle.definitions.proofs.Options.{isAt-true, isAt-some, none-some}
 use Rattle.definitions.proofs.Options.{and-true as both}
 use Rattle.definitions.proofs.Commands.{not-true-false}
-use Rattle.definitions.proofs.Opened.{given-some, given-below}
+use Rattle.definitions.proofs.Opened.{given-some, given-below, ladder-holder}
 use Rattle.definitions.proofs.Words.{under-is, number-word, same-tree}
-use Rattle.opening.specs.Table.{rowLength, lastUnder, cell, rowOwner, rowBelow, rowStart, nextLower, neighbour, linked}
-use Rattle.book.specs.Fields.{withRoot}
-use Rattle.opening.specs.Table.{grown, free, rootOf, rowTree}
 use Rattle.opening.specs.Ladder.{ladderCell, ladderLength, ladderRight}
 use Rattle.opening.proofs.Every.{every, every-at}
 use Rattle.opening.proofs.Last.{last-is, last-only, last-none}
@@ -84,8 +83,11 @@ module _ (rows : List ℕ) (owner : (n : ℕ) → n < ladderNodes → rowOwner r
 
     -- node 3m + 1 is the start of machine m
     start-found : (m : ℕ)
-        → lastUnder ladderNodes (λ n. rowStart rows n && isAt (rowOwner rows n) m) ≡ given (ltb m ladderMachines) (3 * m + 1)
-    start-found m = go (ltb m ladderMachines) refl
+        → under machines m (lastUnder ladderNodes (λ n. rowStart rows n && isAt (rowOwner rows n) m))
+        ≡ given (ltb m ladderMachines) (3 * m + 1)
+    start-found m =
+        under-is machines m (lastUnder ladderNodes p) (given (ltb m ladderMachines) (3 * m + 1)) (λ h. go (ltb m ladderMachines) refl)
+        (λ s e. omega (arith, given-below m ladderMachines (3 * m + 1) e))
       where
         p : ℕ → Bool
         p n = rowStart rows n && isAt (rowOwner rows n) m
@@ -105,9 +107,11 @@ module _ (rows : List ℕ) (owner : (n : ℕ) → n < ladderNodes → rowOwner r
         go false e = last-none ladderNodes p (λ n h. not-true-false (λ f. omega (arith, found n h f, ltb-false m ladderMachines e)))
 
     -- machine m is held by the ladder's holder
-    holder-found : (m : ℕ) → lastUnder ladderNodes (λ n. isAt (rowBelow rows n) m) ≡ ladderHolder m
-    unfolding ladderHolder
-    holder-found m = go m
+    holder-found : (m : ℕ) → under machines m (lastUnder ladderNodes (λ n. isAt (rowBelow rows n) m)) ≡ ladderHolder m
+    unfolding ladderHolder ladderTree
+    holder-found m =
+        under-is machines m (lastUnder ladderNodes (λ n. isAt (rowBelow rows n) m)) (ladderHolder m) (λ h. go m)
+        (λ n e. omega (arith, ladder-holder m n e))
       where
         found : (k n : ℕ) → n < ladderNodes → isAt (rowBelow rows n) k ≡ true
             → (k < ladderMachines) × (0 < k) × (n ≡ 3 * ((k - 1) / 2) + 2 * ((k - 1) % 2))
@@ -178,25 +182,25 @@ module _ (rows : List ℕ) (owner : (n : ℕ) → n < ladderNodes → rowOwner r
             last-none ladderNodes p (λ v h. not-true-false (λ f. omega (arith, found v h f, ltb-false (n % 3) 2 ea)))
 
     -- the machine that no node holds is machine 0
-    root-found : rootOf (grown rows ladderNodes) ≡ 0
+    root-found : rootOf (grown rows ladderNodes absent) ≡ 0
     unfolding rootOf free grown word ladderHolder
-    root-found = ap word (last-is machines 0 (free (grown rows ladderNodes)) (omega arith) (rw (start-found 0, holder-found 0)) held)
+    root-found = ap word (last-is machines 0 (free (grown rows ladderNodes absent)) (omega arith) (rw (start-found 0, holder-found 0)) held)
       where
         used-free : (b : Bool) (s n : ℕ) → (isSome (given b s) && not (isSome (given b n))) ≡ false
         used-free true s n = refl
         used-free false s n = refl
 
-        held : (m : ℕ) → 0 < m → m < machines → free (grown rows ladderNodes) m ≡ false
+        held : (m : ℕ) → 0 < m → m < machines → free (grown rows ladderNodes absent) m ≡ false
         held zero above under = absurd (omega arith)
         held (suc p) above under =
             rw (start-found (suc p), holder-found (suc p))
             (used-free (ltb (suc p) ladderMachines) (3 * suc p + 1) (3 * (p / 2) + 2 * (p % 2)))
 
     -- together they say the ladder
-    ladder-found : withRoot (grown rows ladderNodes) (rootOf (grown rows ladderNodes)) ≡ ladderTree
+    ladder-found : grown rows ladderNodes (rootOf (grown rows ladderNodes absent)) ≡ ladderTree
     unfolding grown ladderTree linked ladderTransition
     ladder-found =
-        same-tree (withRoot (grown rows ladderNodes) (rootOf (grown rows ladderNodes))) ladderTree root-found owner-all below-all start-found
+        same-tree (grown rows ladderNodes (rootOf (grown rows ladderNodes absent))) ladderTree root-found owner-all below-all start-found
         holder-found transition
       where
         owner-all : (n : ℕ) → under ladderNodes n (rowOwner rows n) ≡ given (ltb n ladderNodes) (n / 3)
@@ -228,7 +232,7 @@ module _ (rows : List ℕ) (owner : (n : ℕ) → n < ladderNodes → rowOwner r
 pub ladder-rows : (rows : List ℕ) → length rows ≡ ladderLength → T (every ladderRight 0 rows) → rowTree rows ≡ ladderTree
 unfolding rowTree cell rowOwner rowBelow rowStart number ladderRight
 ladder-rows rows len right =
-    ap (λ (k : ℕ). withRoot (grown rows k) (rootOf (grown rows k))) (ap (λ (k : ℕ). k / rowLength) len)
+    ap (λ (k : ℕ). grown rows k (rootOf (grown rows k absent))) (ap (λ (k : ℕ). k / rowLength) len)
     ∙ ladder-found rows (λ n h. ap number (cells n 0 h (omega arith)) ∙ rw (ne-eqb (n / 3) absent (omega arith)))
     (λ n h. ap number (cells n 1 h (omega arith)) ∙ number-word (ladderBelow n) (λ m e. omega (arith, below-rule n m e)))
     (λ n h. ap (λ (w : ℕ). eqb w 1) (cells n 2 h (omega arith)) ∙ bit (eqb (n % 3) 1))

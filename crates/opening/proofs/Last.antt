@@ -7,7 +7,7 @@ use Prim.Native.Nat.{ℕ, zero, suc, _<_}
 use native.Mathlib.Omega.{arith}
 use Rattle.definitions.proofs.Options.{equal-or-not, some-same, none-some}
 use Rattle.definitions.proofs.Commands.{not-true-false}
-use Rattle.opening.specs.Table.{lastUnder}
+use Rattle.definitions.specs.Open.{lastUnder}
 
 -- one number more: it is the greatest where it passes
 pub last-pass : (k : ℕ) (p : ℕ → Bool) → p k ≡ true → lastUnder (suc k) p ≡ some k

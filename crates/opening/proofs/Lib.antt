@@ -1,10 +1,8 @@
 pub mod Last
 pub mod Every
-pub mod Filling
-pub mod Stores
 pub mod Reading
 pub mod Growth
-pub mod Kept
 pub mod Blank
+pub mod Says
 pub mod Fresh
 pub mod Ladder

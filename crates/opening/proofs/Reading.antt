@@ -3,17 +3,32 @@ use mathlib.Core.Path.{_≡_, refl, sym, _∙_, ap, ap₂}
 use mathlib.Core.Logic.{⊎-elim}
 use mathlib.Core.Bool.{Bool, true, false, cond, not, _&&_, Bool·not-not}
 use mathlib.Core.Option.{none, some}
-use mathlib.Core.List.{List}
-use Prim.Native.Nat.{ℕ, suc, _-_, _<_}
+use mathlib.Core.List.{List, [], _∷_}
+use Prim.Native.Nat.{ℕ, zero, suc, _+_, _*_, _-_, _<_}
+use native.Mathlib.Nat.{not-suc-le-zero, le-of-suc-le-suc}
 use native.Mathlib.Omega.{arith}
 use lib.Dec.{eqb, ltb}
+use lib.ListN.{length, getD}
 use borrow.Author.Tests.{eq-eqb, ne-eqb}
 use Rattle.definitions.specs.Basics.{isSome, isAt}
-use Rattle.definitions.specs.Limits.{machines, absent}
-use Rattle.definitions.specs.Book.{word, number, under, machineWord, treeOf}
-use Rattle.definitions.proofs.Options.{equal-or-not}
-use Rattle.opening.specs.Table.{lastUnder, cell, rowOwner, nextLower, free}
+use Rattle.definitions.specs.Limits.{machines, nodes, costs, absent}
+use Rattle.definitions.specs.Tree.{Transition}
+use Rattle.definitions.specs.Book.{word, number, under, transitionWord, transitionOf, machineWord, treeOf}
+use Rattle.definitions.specs.Open.{lastUnder, cell, rowOwner, nextLower, neighbour, free}
+use Rattle.definitions.proofs.Options.{equal-or-not, some-same}
+use Rattle.definitions.proofs.Words.{transition-word}
 use Rattle.opening.proofs.Last.{last-is, last-skip}
+
+-- what a list holds at a place inside it does not depend on what it gives past its end
+pub getD-any : (l : List ℕ) (i d e : ℕ) → i < length l → getD l i d ≡ getD l i e
+getD-any [] i d e h = absurd (not-suc-le-zero h)
+getD-any (x ∷ xs) zero d e h = refl
+getD-any (x ∷ xs) (suc i) d e h = getD-any xs i d e (le-of-suc-le-suc h)
+
+-- the word of a transition to a neighbour
+pub neighbour-word : (v : ℕ) → v < nodes → transitionOf (v * costs + 1) ≡ neighbour (some v)
+unfolding transitionWord neighbour
+neighbour-word v h = transition-word (neighbour (some v)) (λ a e. rw (← some-same refl e) (h, omega arith))
 
 -- a number that a word says is there exactly where the word is not "none"
 told : (k i w : ℕ) → isSome (under k i (number w)) ≡ not (eqb (word (under k i (number w))) absent)

@@ -3,8 +3,7 @@ use mathlib.Core.Bool.{Bool, cond}
 use Prim.Native.Nat.{ℕ, zero, suc, _*_, _/_, _%_}
 use lib.Dec.{eqb}
 use Rattle.definitions.specs.Book.{word}
-use Rattle.definitions.specs.Open.{ladderNodes, ladderBelow}
-use Rattle.opening.specs.Table.{rowLength}
+use Rattle.definitions.specs.Open.{ladderNodes, ladderBelow, rowLength}
 
 -- row n, by its places: owner n / 3, machine below by the ladder's rule, and 1 where n % 3 is 1
 abbrev pub ladderCell : ℕ → ℕ → ℕ

@@ -1,54 +1,36 @@
 // Opening (document 01): a book and a sheet written whole from a table of rows. Both openings are 'open these rows', and differ in
 // their table alone.
 ghost use mathlib.Core.Path.{_≡_};
-ghost use Prim.Native.Nat.{_+_, _≤_, _<_};
+ghost use mathlib.Core.List.{List};
+ghost use Prim.Native.Nat.{ℕ, _+_, _≤_, _<_};
+ghost use lib.Dec.{eqb};
 ghost use lib.ListN.{length};
-ghost use Rattle.definitions.specs.Limits.{machines, nodes, bookLength, sheetLength};
+ghost use Rattle.definitions.specs.Limits.{machines, nodes, bookLength, sheetLength, absent};
 ghost use Rattle.definitions.specs.Tree.{usedMachine};
-ghost use Rattle.definitions.specs.Book.{word, machineFields, nodeFields, encode, treeOf};
-ghost use Rattle.definitions.specs.Sheet.{staleWord, encodeRows};
+ghost use Rattle.definitions.specs.Book.{word, encode, treeOf};
+ghost use Rattle.definitions.specs.Sheet.{encodeRows};
 ghost use Rattle.definitions.specs.Open.{freshTree, ladderTree, openRows};
+ghost use Rattle.definitions.specs.Open.{rowLength, rowCount, cell, nextLower, grown, free, rootOf, rowTree};
 ghost use Rattle.definitions.specs.Calls.{OpenSays};
-ghost use Rattle.opening.specs.Table.{rowLength, rowCount, cell, nextLower, grown, free, rootOf, rowTree, noTree};
-ghost use Rattle.opening.specs.Writes.{filled, setMachine, setNode, setHolder, setStart, setLink, unusedNode};
-ghost use Rattle.opening.specs.Writes.{blankMachine, blankNode, MachinesStale, NodesBlanked};
+ghost use Rattle.book.specs.Fields.{Holds};
+ghost use Rattle.opening.specs.Writes.{withHeld, withStarted, withLinks};
 
 mod table;
 
-// The words of a sheet.
-pub const SHEET: usize = 2880;
-
-// Writes w at count places of a list, from the place i on.
-fn fill(list: &mut [u32], i: usize, count: usize, w: u32)
-    requires { ⌜ i + count ≤ length (now list) ⌝ }
-    ensures { λ _. ⌜ now (list .exit) ≡ filled (now (list .entry)) i count w ⌝ }
-{
-    let mut k = 0;
-    while k < count {
-        list[i + k] = w;
-        k += 1;
-    }
-}
-
-// Leaves node n's record in a book as an unused node has it.
-fn unused_node(book: &mut [u32], n: u32)
-    requires { ⌜ (length (now book) ≡ bookLength) × (n < nodes) ⌝ }
-    ensures { λ _. ⌜ now (book .exit) ≡ unusedNode (now (book .entry)) n ⌝ }
-{
-    let i = 129 + 18 * (n as usize);
-    fill(book, i, 2, book::ABSENT);
-    fill(book, i + 2, 16, book::BLANK);
-}
-
-// Leaves no machine and no node in a book.
+// Leaves no machine and no node in a book, as it is with none of a table's rows.
 fn clear(book: &mut [u32])
     requires { ⌜ length (now book) ≡ bookLength ⌝ }
-    ensures { λ _. ⌜ now (book .exit) ≡ encode noTree ⌝ }
+    ensures { λ _. ⌜ ((rows : List ℕ) → Holds (now (book .exit)) (grown rows 0 absent)) ⌝ }
 {
-    fill(book, 0, 129, book::ABSENT);
+    book::set_root(book, book::ABSENT);
+    let mut m: u32 = 0;
+    while m < book::MACHINES {
+        book::clear_machine(book, m);
+        m += 1;
+    }
     let mut n: u32 = 0;
     while n < book::NODES {
-        unused_node(book, n);
+        book::clear_node(book, n);
         n += 1;
     }
 }
@@ -81,67 +63,49 @@ fn lower(rows: &[u32], n: u32) -> u32
     book::ABSENT
 }
 
-// Writes the word at place k of machine m's record.
-fn set_machine(book: &mut [u32], m: u32, k: u32, w: u32)
-    requires { ⌜ (length (now book) ≡ bookLength) × (m < machines) × (k < machineFields) ⌝ }
-    ensures { λ _. ⌜ now (book .exit) ≡ setMachine (now (book .entry)) m k w ⌝ }
-{
-    let i = 1 + 2 * (m as usize) + (k as usize);
-    book[i] = w;
-}
-
-// Writes the word at place k of node n's record.
-fn set_node(book: &mut [u32], n: u32, k: u32, w: u32)
-    requires { ⌜ (length (now book) ≡ bookLength) × (n < nodes) × (k < nodeFields) ⌝ }
-    ensures { λ _. ⌜ now (book .exit) ≡ setNode (now (book .entry)) n k w ⌝ }
-{
-    let i = 129 + 18 * (n as usize) + (k as usize);
-    book[i] = w;
-}
-
 // Writes node n as the holder of the machine below it, where there is one.
 fn set_holder(book: &mut [u32], n: u32, below: u32)
-    requires { ⌜ length (now book) ≡ bookLength ⌝ }
-    ensures { λ _. ⌜ now (book .exit) ≡ setHolder (now (book .entry)) n below ⌝ }
+    requires { ⌜ (length (now book) ≡ bookLength) × (n < nodes) ⌝ }
+    ensures { λ _. ⌜ Holds (now (book .exit)) (withHeld (treeOf (now (book .entry))) n below) ⌝ }
 {
     if below < book::MACHINES {
-        set_machine(book, below, 0, n);
+        book::set_holder(book, below, n);
     }
 }
 
 // Writes node n as the start of its machine, where its row says so.
 fn set_start(book: &mut [u32], n: u32, owner: u32, start: u32)
-    requires { ⌜ length (now book) ≡ bookLength ⌝ }
-    ensures { λ _. ⌜ now (book .exit) ≡ setStart (now (book .entry)) n owner start ⌝ }
+    requires { ⌜ (length (now book) ≡ bookLength) × (n < nodes) ⌝ }
+    ensures { λ _. ⌜ Holds (now (book .exit)) (withStarted (treeOf (now (book .entry))) n owner start) ⌝ }
 {
     if start != 1 {
         return;
     }
     if owner < book::MACHINES {
-        set_machine(book, owner, 1, n);
+        book::set_start(book, owner, n);
     }
 }
 
 // Writes the transitions between node n and its next lower node, where there is one.
 fn set_link(book: &mut [u32], n: u32, lower: u32)
     requires { ⌜ (length (now book) ≡ bookLength) × (n < nodes) ⌝ }
-    ensures { λ _. ⌜ now (book .exit) ≡ setLink (now (book .entry)) n lower ⌝ }
+    ensures { λ _. ⌜ Holds (now (book .exit)) (withLinks (treeOf (now (book .entry))) n lower) ⌝ }
 {
     if lower < book::NODES {
-        set_node(book, n, 2, lower * 65536 + 1);
-        set_node(book, lower, 3, n * 65536 + 1);
+        book::set_transition(book, n, 0, lower * 65536 + 1);
+        book::set_transition(book, lower, 1, n * 65536 + 1);
     }
 }
 
 // Writes row n into a book that has the rows before it.
 fn set_row(book: &mut [u32], rows: &[u32], n: u32)
-    requires { ⌜ (n < rowCount (now rows)) × (n < nodes) × (length (now book) ≡ bookLength) × (now book ≡ encode (grown (now rows) n)) ⌝ }
-    ensures { λ _. ⌜ now (book .exit) ≡ encode (grown (now (rows .entry)) (n + 1)) ⌝ }
+    requires { ⌜ (n < rowCount (now rows)) × (n < nodes) × Holds (now book) (grown (now rows) n absent) ⌝ }
+    ensures { λ _. ⌜ Holds (now (book .exit)) (grown (now (rows .entry)) (n + 1) absent) ⌝ }
 {
     let owner = row(rows, n, 0);
     let below = row(rows, n, 1);
-    set_node(book, n, 0, owner);
-    set_node(book, n, 1, below);
+    book::set_owner(book, n, owner);
+    book::set_below(book, n, below);
     set_holder(book, n, below);
     set_start(book, n, owner, row(rows, n, 2));
     set_link(book, n, lower(rows, n));
@@ -149,8 +113,8 @@ fn set_row(book: &mut [u32], rows: &[u32], n: u32)
 
 // Writes the rows of a table into a book that has none.
 fn set_rows(book: &mut [u32], rows: &[u32])
-    requires { ⌜ (rowCount (now rows) ≤ nodes) × (now book ≡ encode noTree) ⌝ }
-    ensures { λ _. ⌜ now (book .exit) ≡ encode (grown (now (rows .entry)) (rowCount (now (rows .entry)))) ⌝ }
+    requires { ⌜ (rowCount (now rows) ≤ nodes) × Holds (now book) (grown (now rows) 0 absent) ⌝ }
+    ensures { λ _. ⌜ Holds (now (book .exit)) (grown (now (rows .entry)) (rowCount (now (rows .entry))) absent) ⌝ }
 {
     let count = rows.len() / 3;
     let mut n: u32 = 0;
@@ -190,38 +154,18 @@ fn root(book: &[u32]) -> u32
 // Writes the book of a table's rows.
 fn open_book(book: &mut [u32], rows: &[u32])
     requires { ⌜ (length (now book) ≡ bookLength) × (rowCount (now rows) ≤ nodes) ⌝ }
-    ensures { λ _. ⌜ now (book .exit) ≡ encode (rowTree (now (rows .entry))) ⌝ }
+    ensures { λ _. ⌜ Holds (now (book .exit)) (rowTree (now (rows .entry))) ⌝ }
 {
     clear(book);
     set_rows(book, rows);
-    book[0] = root(book);
-}
-
-// Leaves machine m's row in a sheet blank but for its mark.
-fn blank_machine(sheet: &mut [u32], m: u32, stale: u32)
-    requires { ⌜ (length (now sheet) ≡ sheetLength) × (m < machines) ⌝ }
-    ensures { λ _. ⌜ now (sheet .exit) ≡ blankMachine (now (sheet .entry)) m stale ⌝ }
-{
-    let i = 33 * (m as usize);
-    sheet[i] = stale;
-    fill(sheet, i + 1, 16, book::BLANK);
-    fill(sheet, i + 17, 16, book::ABSENT);
-}
-
-// Leaves node n's row in a sheet blank.
-fn blank_node(sheet: &mut [u32], n: u32)
-    requires { ⌜ (length (now sheet) ≡ sheetLength) × (n < nodes) ⌝ }
-    ensures { λ _. ⌜ now (sheet .exit) ≡ blankNode (now (sheet .entry)) n ⌝ }
-{
-    let i = 2112 + 3 * (n as usize);
-    sheet[i] = book::BLANK;
-    fill(sheet, i + 1, 2, book::ABSENT);
+    let r = root(book);
+    book::set_root(book, r);
 }
 
 // The mark of machine m where every machine in use is stale.
-fn stale_word(book: &[u32], m: u32) -> u32
+fn mark(book: &[u32], m: u32) -> u32
     requires { ⌜ (length (now book) ≡ bookLength) × (m < machines) ⌝ }
-    ensures { λ r. ⌜ r ≡ staleWord (usedMachine (treeOf (now (book .entry))) m) ⌝ }
+    ensures { λ r. ⌜ (r < 2) × (eqb r 1 ≡ usedMachine (treeOf (now (book .entry))) m) ⌝ }
 {
     if book::start(book, m) == book::ABSENT {
         return 0;
@@ -229,37 +173,23 @@ fn stale_word(book: &[u32], m: u32) -> u32
     1
 }
 
-// Marks every machine of a book, and leaves the rest of the machines' rows blank.
-fn stale_machines(book: &[u32], sheet: &mut [u32])
-    requires { ⌜ (length (now book) ≡ bookLength) × (length (now sheet) ≡ sheetLength) ⌝ }
-    ensures { λ _. ⌜ MachinesStale (treeOf (now (book .entry))) (now (sheet .exit)) ⌝ }
-{
-    let mut m: u32 = 0;
-    while m < book::MACHINES {
-        blank_machine(sheet, m, stale_word(book, m));
-        m += 1;
-    }
-}
-
-// Leaves the rows of all nodes in a sheet blank.
-fn blank_nodes(sheet: &mut [u32])
-    requires { ⌜ length (now sheet) ≡ sheetLength ⌝ }
-    ensures { λ _. ⌜ NodesBlanked (now (sheet .entry)) (now (sheet .exit)) ⌝ }
-{
-    let mut n: u32 = 0;
-    while n < book::NODES {
-        blank_node(sheet, n);
-        n += 1;
-    }
-}
-
 // Marks every machine of a book, and leaves all else in the sheet blank.
 fn open_sheet(book: &[u32], sheet: &mut [u32])
     requires { ⌜ (length (now book) ≡ bookLength) × (length (now sheet) ≡ sheetLength) ⌝ }
     ensures { λ _. ⌜ now (sheet .exit) ≡ encodeRows (openRows (treeOf (now (book .entry)))) ⌝ }
 {
-    stale_machines(book, sheet);
-    blank_nodes(sheet);
+    sheet::clear_marks(sheet);
+    let mut m: u32 = 0;
+    while m < book::MACHINES {
+        sheet::set_stale(sheet, m, mark(book, m));
+        sheet::blank_machine_row(sheet, m);
+        m += 1;
+    }
+    let mut n: u32 = 0;
+    while n < book::NODES {
+        sheet::blank_node_row(sheet, n);
+        n += 1;
+    }
 }
 
 // Opens the tree of a table's rows: writes every word of both lists.
@@ -281,7 +211,7 @@ fn open_table(book: &mut [u32], sheet: &mut [u32], rows: &[u32]) -> u32
     if book.len() != book::BOOK {
         return 1;
     }
-    if sheet.len() != SHEET {
+    if sheet.len() != sheet::SHEET {
         return 1;
     }
     open_rows(book, sheet, rows);

@@ -20,7 +20,7 @@ use Rattle.definitions.proofs.Options.{equal-or-not}
 use Rattle.book.proofs.Places.{kept, kept-grid, Apart, place-same, stored, unstored, field-put, field-kept, grid-put, grid-kept}
 use Rattle.book.proofs.Places.{clearedTo, cleared-none, cleared-more, cleared-all, grid-past}
 use Rattle.book.proofs.Chosen.{unless-both}
-use Rattle.sheet.specs.Fields.{Marks, Mark, Leaves, withMark, withExits, withExit, withLast, withNodeRow, withBlankMachine, withBlankNodes}
+use Rattle.sheet.specs.Fields.{IsMark, Marks, Mark, Leaves, withMark, withExits, withExit, withLast, withNodeRow, withBlankMachine, withBlankNodes}
 
 -- ---- what words say
 
@@ -84,9 +84,10 @@ bit zero h = inl refl
 bit (suc zero) h = inr refl
 bit (suc (suc v)) h = absurd (omega arith)
 
-marks-put : (ws : List ℕ) (m v : ℕ) → length ws ≡ sheetLength → m < machines → v < 2 → Marks ws → Marks (set ws (machinePlace m 0) v)
+pub mark-put : (ws : List ℕ) (m v : ℕ) → length ws ≡ sheetLength → m < machines → v < 2 → (i : ℕ) → ((i ≡ m → ⊥) → IsMark ws i)
+    → IsMark (set ws (machinePlace m 0) v) i
 unfolding machineRowWord
-marks-put ws m v l hm hv marks i hi =
+mark-put ws m v l hm hv i other =
     ⊎-elim
     (λ e.
     let here : getD (set ws (machinePlace m 0) v) (machinePlace i 0) 0 ≡ v =
@@ -95,7 +96,7 @@ marks-put ws m v l hm hv marks i hi =
     rw here (bit v hv))
     (λ ne.
     rw (unstored machinePlace machineRowLength machine-apart ws m 0 v (omega arith) (omega arith) i 0 (omega arith) (λ p q. ne p))
-    (marks i hi))
+    (other ne))
     (equal-or-not i m)
 
 -- ---- a word of a machine's row is written
@@ -144,7 +145,7 @@ unfolding rowsOf machineRowWord
 mark-store ws m v l hm hv =
     record {
       length = length-set ws (machinePlace m 0) v ∙ l;
-      marks = marks-put ws m v l hm hv;
+      marks = λ marks i hi. mark-put ws m v l hm hv i (λ _. marks i hi);
       rows =
           same-nodes ws (machinePlace m 0) v (omega arith)
           (field-put machinePlace machineRowLength machine-apart ws m 0 v (omega arith) (omega arith) machines (λ w. eqb w 1) false hm)

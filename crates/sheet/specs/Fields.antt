@@ -12,9 +12,13 @@ use Rattle.definitions.specs.Limits.{machines, sheetLength}
 use Rattle.definitions.specs.Book.{number}
 use Rattle.definitions.specs.Sheet.{Rows, costOf, staleWord, machineRowWord, rowsOf}
 
--- every mark is 0 or 1
+-- the mark of machine m is 0 or 1
+abbrev pub IsMark : List ℕ → ℕ → Type 0
+IsMark ws m = (machineRowWord ws m 0 ≡ 0) ⊎ (machineRowWord ws m 0 ≡ 1)
+
+-- and so is every mark
 abbrev pub Marks : List ℕ → Type 0
-Marks ws = (m : ℕ) → m < machines → (machineRowWord ws m 0 ≡ 0) ⊎ (machineRowWord ws m 0 ≡ 1)
+Marks ws = (m : ℕ) → m < machines → IsMark ws m
 
 -- w is machine m's mark: it says whether m is stale, and where marks are 0 or 1 it is the word for that
 pub record Mark (ws : List ℕ) (m w : ℕ) : Type 0 where

@@ -10,7 +10,7 @@ ghost use Rattle.definitions.specs.Book.{word, number, treeOf};
 ghost use Rattle.definitions.specs.Sheet.{machineRowLength, nodeRowLength, costWord, costOf, nodeRow, machineRowWord, rowsOf};
 ghost use Rattle.definitions.specs.Truth.{nodeExit};
 ghost use Rattle.sheet.specs.Exits.{Readable, exitLimit, Exits};
-ghost use Rattle.sheet.specs.Fields.{Mark, Leaves, withMark, withExit, withLast, withCost, withBefore, withBy, withNodeRow};
+ghost use Rattle.sheet.specs.Fields.{Mark, Marks, Leaves, withMark, withExit, withLast, withCost, withBefore, withBy, withNodeRow};
 ghost use Rattle.sheet.specs.Fields.{withBlankMachine, withBlankNode};
 
 // The words of a sheet.
@@ -134,6 +134,18 @@ pub fn set_stale(sheet: &mut [u32], m: u32, b: u32)
     ensures { λ r. ⌜ Leaves (now (sheet .entry)) (now (sheet .exit)) (withMark (rowsOf (now (sheet .entry))) m (eqb b 1)) ⌝ }
 {
     set_machine_row_word(sheet, m, 0, b);
+}
+
+// Makes every mark 0, whatever words stood there.
+pub fn clear_marks(sheet: &mut [u32])
+    requires { ⌜ length (now sheet) ≡ sheetLength ⌝ }
+    ensures { λ r. ⌜ Marks (now (sheet .exit)) ⌝ }
+{
+    let mut m = 0u32;
+    while m < book::MACHINES {
+        set_machine_row_word(sheet, m, 0, 0);
+        m += 1;
+    }
 }
 
 // Makes v the exit cost of machine m for command x; BLANK for none.

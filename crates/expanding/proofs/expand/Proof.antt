@@ -4,7 +4,6 @@ use native.Mathlib.Omega.{arith}
 use borrow.Author.Needs.{needs}
 use lib.ListN.{length}
 use Rattle.expanding.specs.Expanding.{Written}
-use Rattle.expanding.proofs.Names.{search-names, search-spaced}
 use Rattle.expanding.proofs.Tracing.{steps-none}
 use Rattle.expanding.proofs.Writing.{written-front}
 use Rattle.expanding.proofs.Short.{plan-steps}
@@ -20,13 +19,8 @@ slice-aggregate-trace-2 c = search needs
 trace-requires : tie.Need-trace-requires
 trace-requires c κs =
     let entry = c .before .before .before .before .before .before .before in
-    let p = entry .pre in (
-      search-spaced (entry .args .before .now) (p .1),
-      search-spaced (entry .args .by .now) (p .2),
-      rw (search-names (entry .args .before .now), search-names (entry .args .by .now)) (p .3),
-      steps-none refl refl,
-      omega arith,
-    )
+    let p = entry .pre in
+    (p .1, p .2, p .3, steps-none refl refl, omega arith)
 
 slice-aggregate-expand-path : tie.Need-slice-aggregate-expand-path
 slice-aggregate-expand-path c = search needs

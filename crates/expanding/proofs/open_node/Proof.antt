@@ -5,9 +5,8 @@ use borrow.Author.Needs.{needs}
 use Rattle.definitions.specs.Book.{treeOf}
 use Rattle.definitions.proofs.Words.{present-word, no-below}
 use Rattle.plantheory.proofs.Expanded.{part-plain}
-use Rattle.expanding.proofs.Names.{sheet-before, sheet-by, sheet-spaced}
 use Rattle.expanding.proofs.Tracing.{steps-none, steps-more}
-use Rattle.expanding.proofs.Opening.{part-none, opens-none, opens-path, held, lent-traceable, no-last}
+use Rattle.expanding.proofs.Opening.{part-none, opens-none, opens-path, held, last-traceable, no-last}
 use Rattle.expanding.proofs.open_node.Statement.{statement}
 use Rattle.expanding.proofs.open_node.Tie as tie
 
@@ -36,44 +35,26 @@ returns-2 c =
     let shut = no-last (p .0) (entry .args .n) (entry .args .x) (p .2) bel (c .before .last .ensures) (c .if2 .taken) in
     opens-none (steps-none (p .3) (p .4)) (λ d. part-none d _ _ _ _ bel shut)
 
-slice-write-left : tie.Need-slice-write-left
-slice-write-left c = search needs
+note-requires : tie.Need-note-requires
+note-requires c κs = search needs
 
-slice-write-given : tie.Need-slice-write-given
-slice-write-given c = search needs
-
-sub-trace : tie.Need-sub-trace
-sub-trace c = search needs
-
-part-trace-start : tie.Need-part-trace-start
-part-trace-start c = search needs
-
-part-trace-end : tie.Need-part-trace-end
-part-trace-end c = search needs
-
-sub-trace-2 : tie.Need-sub-trace-2
-sub-trace-2 c = search needs
-
-part-trace-start-2 : tie.Need-part-trace-start-2
-part-trace-start-2 c = search needs
-
-part-trace-end-2 : tie.Need-part-trace-end-2
-part-trace-end-2 c = search needs
-
-trace-requires : tie.Need-trace-requires
-trace-requires c κs =
-    let at-last = c .before .before .before .before .before in
+trace-rows-requires : tie.Need-trace-rows-requires
+trace-rows-requires c κs =
+    let at-note = c .before .before .before .before .before .before in
+    let at-else = at-note .before .before .before in
+    let at-last = at-else .before in
     let at-below = at-last .before .before in
     let entry = at-below .before .before .before .before .before in
     let p = entry .pre in
     let u = at-last .last .result in
     let (bel, range) = held (p .0) (entry .args .n) (entry .args .x) (p .2) (at-below .below .ensures) (at-last .before .if1 .left) in
-    let last = present-word _ (at-last .last .ensures) (c .before .before .before .before .if2 .left) in
-    let tr = lent-traceable (p .0) (entry .args .n) (entry .args .x) (p .2) bel last in (
-      sheet-spaced (entry .args .sheet .now) 1 (p .0 .true-sheet .length) (omega arith),
-      sheet-spaced (entry .args .sheet .now) 2 (p .0 .true-sheet .length) (omega arith),
+    let last = present-word _ (at-last .last .ensures) (at-else .if2 .left) in
+    let tr = last-traceable (p .0) (entry .args .n) (entry .args .x) (p .2) bel last in (
+      p .0 .true-sheet .length,
       tr,
-      steps-more {left = entry .args .left .now} {given = entry .args .given .now} u (entry .args .x) (steps-none (p .3) (p .4)) (omega arith) (tr .here) (p .2),
+      rw (at-note .note .ensures .0, at-note .note .ensures .1)
+          (steps-more {left = entry .args .left .now} {given = entry .args .given .now} u (entry .args .x) (steps-none (p .3) (p .4)) (omega arith)
+          (tr .here) (p .2)),
       omega arith,
     )
 
@@ -86,7 +67,8 @@ same-length-2 c = search needs
 returns-3 : tie.Need-returns-3
 returns-3 c =
     let at-trace = c .before .before .before .before in
-    let at-else = at-trace .before .before .before .before .before in
+    let at-note = at-trace .before .before .before .before .before .before .before in
+    let at-else = at-note .before .before .before in
     let at-last = at-else .before in
     let at-below = at-last .before .before in
     let entry = at-below .before .before .before .before .before in
@@ -94,7 +76,7 @@ returns-3 c =
     let (bel, range) = held (p .0) (entry .args .n) (entry .args .x) (p .2) (at-below .below .ensures) (at-last .before .if1 .left) in
     let last = present-word _ (at-last .last .ensures) (at-else .if2 .left) in
     opens-path (entry .args .left .now) (entry .args .given .now) bel last (omega (arith, p .3)) (omega (arith, p .4))
-    (rw (sheet-before (entry .args .sheet .now), sheet-by (entry .args .sheet .now)) at (at-trace .trace .ensures))
+    (rw (at-note .note .ensures .0, at-note .note .ensures .1) at (at-trace .trace-rows .ensures))
 
 pub open-node-spec : {M : Type 1} → statement M
 open-node-spec =
@@ -104,15 +86,8 @@ open-node-spec =
     returns
     last-requires
     returns-2
-    slice-write-left
-    slice-write-given
-    sub-trace
-    part-trace-start
-    part-trace-end
-    sub-trace-2
-    part-trace-start-2
-    part-trace-end-2
-    trace-requires
+    note-requires
+    trace-rows-requires
     same-length
     same-length-2
     returns-3)

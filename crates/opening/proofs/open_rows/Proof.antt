@@ -1,6 +1,6 @@
 -- `opening::open_rows` meets its contract: the sheet's marks are those of the book that is written. Assumes nothing.
 use denote.Ref.{now}
-use Rattle.opening.proofs.Kept.{sheet-marked}
+use Rattle.opening.proofs.Says.{rows-opened}
 use borrow.Author.Needs.{needs}
 use Rattle.opening.proofs.open_rows.Statement.{statement}
 use Rattle.opening.proofs.open_rows.Tie as tie
@@ -19,12 +19,9 @@ same-length-2 c = search needs
 
 returns : tie.Need-returns
 returns c =
-    let book = c .before .before .before .before .before .before .before .open-book in
-    let marks = c .before .before .open-sheet in
-    let start = c .before .before .before .before .before .before .before .before .before .before .before .before in (
-      book .ensures,
-      sheet-marked (now (start .args .rows)) (book .last .0) (marks .last .1 .0) (start .pre .2) (book .ensures) (marks .ensures),
-    )
+    let book = c .before .before .before .before .before .before .before in
+    let rows = now (book .before .before .before .before .before .args .rows) in
+    rows-opened rows (book .open-book .ensures) (c .before .before .open-sheet .ensures)
 
 pub open-rows-spec : {M : Type 1} → statement M
 open-rows-spec =

@@ -1,9 +1,8 @@
 -- `opening::open_table` meets its contract: each length is tested before a word is written. Assumes nothing.
-use mathlib.Core.Logic.{inl, inr}
 use native.Mathlib.Omega.{arith}
 use denote.Ref.{now}
-use Rattle.opening.specs.Table.{rowTree}
-use Rattle.opening.proofs.Kept.{refused, opened}
+use Rattle.definitions.specs.Open.{rowTree}
+use Rattle.opening.proofs.Says.{refused, opened}
 use borrow.Author.Needs.{needs}
 use Rattle.opening.proofs.open_table.Statement.{statement}
 use Rattle.opening.proofs.open_table.Tie as tie

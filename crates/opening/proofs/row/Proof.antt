@@ -5,8 +5,8 @@ use native.Mathlib.Omega.{arith}
 use denote.Ref.{now}
 use lib.ListN.{getD}
 use Rattle.definitions.specs.Limits.{absent}
-use Rattle.opening.specs.Table.{cell}
-use Rattle.opening.proofs.Filling.{getD-any}
+use Rattle.definitions.specs.Open.{cell}
+use Rattle.opening.proofs.Reading.{getD-any}
 use borrow.Author.Needs.{needs}
 use Rattle.opening.proofs.row.Statement.{statement}
 use Rattle.opening.proofs.row.Tie as tie

@@ -12,11 +12,11 @@ row-requires c κs = search needs
 row-requires-2 : tie.Need-row-requires-2
 row-requires-2 c κs = search needs
 
-set-node-requires : tie.Need-set-node-requires
-set-node-requires c κs = search needs
+set-owner-requires : tie.Need-set-owner-requires
+set-owner-requires c κs = search needs
 
-set-node-requires-2 : tie.Need-set-node-requires-2
-set-node-requires-2 c κs = search needs
+set-below-requires : tie.Need-set-below-requires
+set-below-requires c κs = search needs
 
 set-holder-requires : tie.Need-set-holder-requires
 set-holder-requires c κs = search needs
@@ -48,10 +48,9 @@ returns c =
     let lower = c .before .before .before .lower in
     rw (add-one (start .args .n))
     (row-written (now (start .args .rows)) (start .args .n) (start .pre .1) (owner .result) (below .result) (started .before .row3 .result)
-    (lower .result) (now (start .args .book)) (owned .set-node .last .0) (plain .set-node2 .last .0) (held .set-holder .last .0)
-    (started .set-start .last .0) (c .before .before .set-link .last .0) (owner .ensures) (below .ensures) (started .before .row3 .ensures)
-    (lower .ensures) (start .pre .3) (owned .set-node .ensures) (plain .set-node2 .ensures) (held .set-holder .ensures)
-    (started .set-start .ensures) (c .before .before .set-link .ensures))
+    (lower .result) (owner .ensures) (below .ensures) (started .before .row3 .ensures) (lower .ensures) (start .pre .2)
+    (owned .set-owner .ensures) (plain .set-below .ensures) (held .set-holder .ensures) (started .set-start .ensures)
+    (c .before .before .set-link .ensures))
 
 pub set-row-spec : {M : Type 1} → statement M
 set-row-spec =
@@ -59,8 +58,8 @@ set-row-spec =
     (tie.spec
     row-requires
     row-requires-2
-    set-node-requires
-    set-node-requires-2
+    set-owner-requires
+    set-below-requires
     set-holder-requires
     row-requires-3
     set-start-requires
