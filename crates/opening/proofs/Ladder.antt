@@ -19,7 +19,7 @@ use Rattle.definitions.proofs.Commands.{not-true-false}
 use Rattle.definitions.proofs.Opened.{given-some, given-below}
 use Rattle.definitions.proofs.Words.{under-is, number-word, same-tree}
 use Rattle.opening.specs.Table.{rowLength, lastUnder, cell, rowOwner, rowBelow, rowStart, nextLower, neighbour, linked}
-use Rattle.book.specs.Fields.{withRoot}
+use Rattle.definitions.specs.Tree.{withRoot}
 use Rattle.opening.specs.Table.{grown, free, rootOf, rowTree}
 use Rattle.opening.specs.Ladder.{ladderCell, ladderLength, ladderRight}
 use Rattle.opening.proofs.Every.{every, every-at}

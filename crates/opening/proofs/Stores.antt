@@ -12,7 +12,7 @@ use Rattle.definitions.specs.Book.{word, transitionWord, machineField, nodeFiel
 use Rattle.definitions.specs.Book.{encode, machineWord, nodeWord}
 use Rattle.definitions.proofs.Options.{equal-or-not}
 use Rattle.definitions.proofs.Words.{encode-length, encode-is, root-word, machine-word, node-word}
-use Rattle.book.specs.Fields.{withRoot}
+use Rattle.definitions.specs.Tree.{withRoot}
 use Rattle.book.proofs.Places.{place-same}
 use Rattle.opening.specs.Writes.{setMachine, setNode}
 

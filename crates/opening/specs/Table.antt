@@ -10,7 +10,7 @@ use Rattle.definitions.specs.Basics.{_>>=_, isSome, isAt}
 use Rattle.definitions.specs.Limits.{machines, absent}
 use Rattle.definitions.specs.Tree.{Tree, Transition, usedMachine}
 use Rattle.definitions.specs.Book.{word, number, under}
-use Rattle.book.specs.Fields.{withRoot}
+use Rattle.definitions.specs.Tree.{withRoot}
 
 -- the greatest number under k that passes the test
 unfoldable pub lastUnder : ℕ → (ℕ → Bool) → Option ℕ
