@@ -9,13 +9,14 @@ use lib.Dec.{eqb}
 use lib.ListN.{getD, replicate, getD-replicate}
 use borrow.Author.Tests.{eq-eqb, ne-eqb}
 use Rattle.definitions.specs.Limits.{machines, nodes, absent}
+use Rattle.definitions.specs.Tree.{withRoot, withOwner, withStartOf}
 use Rattle.definitions.specs.Book.{number, encode, treeOf}
 use Rattle.definitions.specs.Sheet.{Rows, encodeRows, rowsOf}
 use Rattle.definitions.specs.Stream.{Edit}
 use Rattle.definitions.specs.Edit.{single, withStale, edited, touches, editedRows}
 use Rattle.definitions.proofs.Options.{equal-or-not}
 use Rattle.definitions.proofs.Words.{same-rows, encode-treeOf, marks-words}
-use Rattle.book.specs.Fields.{Holds, withRoot, withStartOf, withOwner}
+use Rattle.book.specs.Fields.{Holds}
 use Rattle.book.proofs.Stores.{holds-then}
 use Rattle.sheet.specs.Fields.{Marks, Leaves, withMark}
 use Rattle.book.specs.Chosen.{chosen, upTo}

@@ -8,12 +8,12 @@ use lib.ListN.{length, set, length-set}
 use lib.Seq.{getD-set-same, getD-set-other}
 use Rattle.definitions.specs.Basics.{put}
 use Rattle.definitions.specs.Limits.{machines, nodes, commands, bookLength}
-use Rattle.definitions.specs.Tree.{Tree, Transition}
+use Rattle.definitions.specs.Tree.{Tree, Transition, withRoot, withNodes, withMachines, withTransitions}
 use Rattle.definitions.specs.Book.{machineFields, nodeFields, machineBase, nodeBase, machineWord, nodeWord}
 use Rattle.definitions.specs.Book.{number, transitionOf, under, treeOf}
 use Rattle.definitions.specs.Edit.{withTransition}
 use Rattle.definitions.proofs.Words.{same-tree}
-use Rattle.book.specs.Fields.{Holds, withRoot, withMachineField, withNodeField, withTransitions, withoutTransitions}
+use Rattle.book.specs.Fields.{Holds, withMachineField, withNodeField, withoutTransitions}
 use Rattle.book.proofs.Places.{kept, Apart, place-same, field-put, field-kept, grid-put, grid-kept}
 use Rattle.book.proofs.Places.{clearedTo, cleared-none, cleared-more, cleared-all, grid-past}
 
@@ -42,65 +42,45 @@ unfolding under machineWord
 machine-far ws p v k m apart =
     kept machines m number none (λ hm. getD-set-other ws p (machinePlace m k) v 0 (apart hm))
 
--- the root is written
-pub root-store : (ws : List ℕ) (m : ℕ) → length ws ≡ bookLength → treeOf (set ws 0 m) ≡ withRoot (treeOf ws) m
-unfolding treeOf
-root-store ws m l =
-    same-tree (treeOf (set ws 0 m)) (withRoot (treeOf ws) m) (getD-set-same ws 0 m 0 (omega arith))
-    (λ n. node-far ws 0 m (omega arith) (λ w. under nodes n (number w)) n 0)
-    (λ n. node-far ws 0 m (omega arith) (λ w. under nodes n (number w)) n 1)
-    (λ k. machine-far ws 0 m 1 k (omega arith))
-    (λ k. machine-far ws 0 m 0 k (omega arith))
-    (λ n x. node-far ws 0 m (omega arith) (λ w. under nodes n (under commands x (transitionOf w))) n (2 + x))
-
--- a store among the machines' words leaves all but start nodes and holders
-same-nodes : (ws : List ℕ) (p v : ℕ) → 0 < p → p < nodeBase → {start holder : ℕ → Option ℕ}
+-- a store before the nodes' words leaves what is said of nodes
+nodes-stay : (ws : List ℕ) (p v : ℕ) → p < nodeBase → {root : ℕ} {start holder : ℕ → Option ℕ} → treeOf (set ws p v) .root ≡ root
     → ((m : ℕ) → treeOf (set ws p v) .start m ≡ start m) → ((m : ℕ) → treeOf (set ws p v) .holder m ≡ holder m)
-    → treeOf (set ws p v)
-    ≡ record {
-      root = treeOf ws .root;
-      owner = treeOf ws .owner;
-      below = treeOf ws .below;
-      start = start;
-      holder = holder;
-      transition = treeOf ws .transition;
-    }
+    → treeOf (set ws p v) ≡ withMachines (withRoot (treeOf ws) root) start holder
 unfolding treeOf
-same-nodes ws p v lo hi start holder =
-    same-tree (treeOf (set ws p v)) _ (getD-set-other ws p 0 v 0 (omega arith))
+nodes-stay ws p v hi root start holder =
+    same-tree _ _ root
     (λ n. node-far ws p v hi (λ w. under nodes n (number w)) n 0)
     (λ n. node-far ws p v hi (λ w. under nodes n (number w)) n 1)
     start holder
     (λ n x. node-far ws p v hi (λ w. under nodes n (under commands x (transitionOf w))) n (2 + x))
 
--- a store among the nodes' words leaves root, start nodes and holders
-same-machines : (ws : List ℕ) (p v : ℕ) → nodeBase ≤ p → {owner below : ℕ → Option ℕ} {transition : ℕ → ℕ → Option Transition}
+-- a store among the nodes' words leaves the root and what is said of machines
+machines-stay : (ws : List ℕ) (p v : ℕ) → nodeBase ≤ p → {owner below : ℕ → Option ℕ} {transition : ℕ → ℕ → Option Transition}
     → ((n : ℕ) → treeOf (set ws p v) .owner n ≡ owner n) → ((n : ℕ) → treeOf (set ws p v) .below n ≡ below n)
     → ((n x : ℕ) → treeOf (set ws p v) .transition n x ≡ transition n x)
-    → treeOf (set ws p v)
-    ≡ record {
-      root = treeOf ws .root;
-      owner = owner;
-      below = below;
-      start = treeOf ws .start;
-      holder = treeOf ws .holder;
-      transition = transition;
-    }
+    → treeOf (set ws p v) ≡ withNodes (treeOf ws) owner below transition
 unfolding treeOf
-same-machines ws p v h owner below transition =
-    same-tree (treeOf (set ws p v)) _ (getD-set-other ws p 0 v 0 (omega arith)) owner below
+machines-stay ws p v h owner below transition =
+    same-tree _ _ (getD-set-other ws p 0 v 0 (omega arith)) owner below
     (λ m. machine-far ws p v 1 m (omega arith)) (λ m. machine-far ws p v 0 m (omega arith)) transition
+
+-- the root is written
+pub root-store : (ws : List ℕ) (m : ℕ) → length ws ≡ bookLength → treeOf (set ws 0 m) ≡ withRoot (treeOf ws) m
+unfolding treeOf
+root-store ws m l =
+    nodes-stay ws 0 m (omega arith) (getD-set-same ws 0 m 0 (omega arith)) (λ k. machine-far ws 0 m 1 k (omega arith))
+    (λ k. machine-far ws 0 m 0 k (omega arith))
 
 -- a word of machine m's record is written
 pub machine-store : (ws : List ℕ) (m k v : ℕ) → length ws ≡ bookLength → m < machines → k < machineFields
     → treeOf (set ws (machinePlace m k) v) ≡ withMachineField (treeOf ws) m k v
 unfolding treeOf machineWord under
 machine-store ws m zero v l hm hk =
-    same-nodes ws (machinePlace m 0) v (omega arith) (omega arith)
+    nodes-stay ws (machinePlace m 0) v (omega arith) (getD-set-other ws (machinePlace m 0) 0 v 0 (omega arith))
     (field-kept machinePlace machineFields machine-apart ws m 0 v hk (omega arith) machines 1 number none (omega arith) (omega arith))
     (field-put machinePlace machineFields machine-apart ws m 0 v hk (omega arith) machines number none hm)
 machine-store ws m (suc zero) v l hm hk =
-    same-nodes ws (machinePlace m 1) v (omega arith) (omega arith)
+    nodes-stay ws (machinePlace m 1) v (omega arith) (getD-set-other ws (machinePlace m 1) 0 v 0 (omega arith))
     (field-put machinePlace machineFields machine-apart ws m 1 v hk (omega arith) machines number none hm)
     (field-kept machinePlace machineFields machine-apart ws m 1 v hk (omega arith) machines 0 number none (omega arith) (omega arith))
 machine-store ws m (suc (suc k)) v l hm hk = absurd (omega arith)
@@ -110,18 +90,18 @@ pub node-store : (ws : List ℕ) (n k v : ℕ) → length ws ≡ bookLength → 
     → treeOf (set ws (nodePlace n k) v) ≡ withNodeField (treeOf ws) n k v
 unfolding treeOf nodeWord under withTransition
 node-store ws n zero v l hn hk =
-    same-machines ws (nodePlace n 0) v (omega arith)
+    machines-stay ws (nodePlace n 0) v (omega arith)
     (field-put nodePlace nodeFields node-apart ws n 0 v hk (omega arith) nodes number none hn)
     (field-kept nodePlace nodeFields node-apart ws n 0 v hk (omega arith) nodes 1 number none (omega arith) (omega arith))
     (grid-kept nodePlace nodeFields node-apart ws n 0 v hk (omega arith) nodes commands 2 transitionOf (omega arith) (omega arith))
 node-store ws n (suc zero) v l hn hk =
-    same-machines ws (nodePlace n 1) v (omega arith)
+    machines-stay ws (nodePlace n 1) v (omega arith)
     (field-kept nodePlace nodeFields node-apart ws n 1 v hk (omega arith) nodes 0 number none (omega arith) (omega arith))
     (field-put nodePlace nodeFields node-apart ws n 1 v hk (omega arith) nodes number none hn)
     (grid-kept nodePlace nodeFields node-apart ws n 1 v hk (omega arith) nodes commands 2 transitionOf (omega arith) (omega arith))
 node-store ws n (suc (suc x)) v l hn hk =
     let k : ℕ = suc (suc x) in
-    same-machines ws (nodePlace n k) v (omega arith)
+    machines-stay ws (nodePlace n k) v (omega arith)
     (field-kept nodePlace nodeFields node-apart ws n k v hk (omega arith) nodes 0 number none (omega arith) (omega arith))
     (field-kept nodePlace nodeFields node-apart ws n k v hk (omega arith) nodes 1 number none (omega arith) (omega arith))
     (grid-put nodePlace nodeFields node-apart ws n k v hk (omega arith) nodes commands 2 x transitionOf hn (omega arith) (omega arith)

@@ -1,13 +1,12 @@
--- A tree with one field changed at one number, which is what one word of a book changes, and what a book's words are after a store.
--- (The tree with another transition is the definitions' own withTransition.)
+-- What a book's words are after a store: the tree with one field changed at one number, and trees that say nothing of a number.
 use mathlib.Core.Path.{_≡_}
-use mathlib.Core.Option.{Option, none}
+use mathlib.Core.Option.{none}
 use mathlib.Core.List.{List}
 use Prim.Native.Nat.{ℕ, zero, suc}
 use lib.ListN.{length}
 use Rattle.definitions.specs.Basics.{put}
 use Rattle.definitions.specs.Limits.{bookLength}
-use Rattle.definitions.specs.Tree.{Tree, Transition}
+use Rattle.definitions.specs.Tree.{Tree, withNodes, withMachines, withOwner, withBelow, withTransitions, withStartOf, withHolder}
 use Rattle.definitions.specs.Book.{number, transitionOf, treeOf}
 use Rattle.definitions.specs.Edit.{withTransition}
 
@@ -15,78 +14,6 @@ use Rattle.definitions.specs.Edit.{withTransition}
 pub record Holds (ws : List ℕ) (t : Tree) : Type 0 where
   pub length : length ws ≡ bookLength
   pub tree : treeOf ws ≡ t
-
--- the tree with m as its root
-abbrev pub withRoot : Tree → ℕ → Tree
-withRoot t m =
-    record {
-      root = m;
-      owner = t .owner;
-      below = t .below;
-      start = t .start;
-      holder = t .holder;
-      transition = t .transition;
-    }
-
--- the tree with o as the owner of node n
-abbrev pub withOwner : Tree → ℕ → Option ℕ → Tree
-withOwner t n o =
-    record {
-      root = t .root;
-      owner = put (t .owner) n o;
-      below = t .below;
-      start = t .start;
-      holder = t .holder;
-      transition = t .transition;
-    }
-
--- the tree with o as the machine below node n
-abbrev pub withBelow : Tree → ℕ → Option ℕ → Tree
-withBelow t n o =
-    record {
-      root = t .root;
-      owner = t .owner;
-      below = put (t .below) n o;
-      start = t .start;
-      holder = t .holder;
-      transition = t .transition;
-    }
-
--- the tree with o as the start node of machine m
-abbrev pub withStartOf : Tree → ℕ → Option ℕ → Tree
-withStartOf t m o =
-    record {
-      root = t .root;
-      owner = t .owner;
-      below = t .below;
-      start = put (t .start) m o;
-      holder = t .holder;
-      transition = t .transition;
-    }
-
--- the tree with o as the node that holds machine m
-abbrev pub withHolder : Tree → ℕ → Option ℕ → Tree
-withHolder t m o =
-    record {
-      root = t .root;
-      owner = t .owner;
-      below = t .below;
-      start = t .start;
-      holder = put (t .holder) m o;
-      transition = t .transition;
-    }
-
--- the tree with other transitions
-abbrev pub withTransitions : Tree → (ℕ → ℕ → Option Transition) → Tree
-withTransitions t transition =
-    record {
-      root = t .root;
-      owner = t .owner;
-      below = t .below;
-      start = t .start;
-      holder = t .holder;
-      transition = transition;
-    }
 
 -- the tree where node n has no transition
 abbrev pub withoutTransitions : Tree → ℕ → Tree
@@ -104,23 +31,7 @@ withNodeField t n (suc (suc x)) v = withTransition t n x (transitionOf v)
 
 -- the tree where nothing is said of machine m, and the same of node n: an unused record
 abbrev pub withoutMachine : Tree → ℕ → Tree
-withoutMachine t m =
-    record {
-      root = t .root;
-      owner = t .owner;
-      below = t .below;
-      start = put (t .start) m none;
-      holder = put (t .holder) m none;
-      transition = t .transition;
-    }
+withoutMachine t m = withMachines t (put (t .start) m none) (put (t .holder) m none)
 
 abbrev pub withoutNode : Tree → ℕ → Tree
-withoutNode t n =
-    record {
-      root = t .root;
-      owner = put (t .owner) n none;
-      below = put (t .below) n none;
-      start = t .start;
-      holder = t .holder;
-      transition = put (t .transition) n (λ x. none);
-    }
+withoutNode t n = withNodes t (put (t .owner) n none) (put (t .below) n none) (put (t .transition) n (λ x. none))

@@ -4,11 +4,12 @@ ghost use mathlib.Core.Path.{_≡_};
 ghost use Prim.Native.Nat.{_<_};
 ghost use lib.ListN.{length};
 ghost use Rattle.definitions.specs.Limits.{machines, nodes, commands, bookLength};
+ghost use Rattle.definitions.specs.Tree.{withRoot, withHolder, withStartOf, withOwner, withBelow};
 ghost use Rattle.definitions.specs.Book.{word, transitionWord, machineFields, nodeFields, machineField, nodeField, treeOf};
 ghost use Rattle.definitions.specs.Book.{number, transitionOf, WellFormed};
 ghost use Rattle.definitions.specs.Step.{counting};
 ghost use Rattle.definitions.specs.Edit.{withTransition};
-ghost use Rattle.book.specs.Fields.{Holds, withRoot, withHolder, withStartOf, withOwner, withBelow, withoutTransitions};
+ghost use Rattle.book.specs.Fields.{Holds, withoutTransitions};
 ghost use Rattle.book.specs.Fields.{withMachineField, withNodeField, withoutMachine, withoutNode};
 
 // The words of a book.

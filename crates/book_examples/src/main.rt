@@ -3,6 +3,11 @@ use libc::STDOUT_FILENO;
 use stepping::StepAnswer;
 use writing::WriteAnswer;
 
+// A book and a sheet.
+type Book = [u32; book::BOOK];
+
+type Sheet = [u32; sheet::SHEET];
+
 // Writes a text, then a number, then a newline.
 fn line(text: &[u8], n: u32) {
     io::write_all(STDOUT_FILENO, text);
@@ -20,9 +25,9 @@ fn pair(text: &[u8], a: u32, b: u32) {
 }
 
 // Whether two books have the same words.
-fn same(a: &[u32; 4737], b: &[u32; 4737]) -> u32 {
+fn same(a: &Book, b: &Book) -> u32 {
     let mut i = 0usize;
-    while i < 4737 {
+    while i < book::BOOK {
         if a[i] != b[i] {
             return 0;
         }
@@ -32,9 +37,9 @@ fn same(a: &[u32; 4737], b: &[u32; 4737]) -> u32 {
 }
 
 // Copies a book by its stream into the ladder's holding, and writes the stream's length, or the refusal, and whether the words are the same.
-fn show_copy(text: &[u8], book: &[u32; 4737], out: &mut [u8; 72]) {
-    let mut other = [0u32; 4737];
-    let mut sheet = [0u32; 2880];
+fn show_copy(text: &[u8], book: &Book, out: &mut [u8; 72]) {
+    let mut other = [0u32; book::BOOK];
+    let mut sheet = [0u32; sheet::SHEET];
     open_ladder(&mut other, &mut sheet);
     pair(
         text,
@@ -44,12 +49,7 @@ fn show_copy(text: &[u8], book: &[u32; 4737], out: &mut [u8; 72]) {
 }
 
 // The number that a copy answers.
-fn copy(
-    book: &[u32; 4737],
-    out: &mut [u8; 72],
-    other: &mut [u32; 4737],
-    sheet: &mut [u32; 2880],
-) -> u32 {
+fn copy(book: &Book, out: &mut [u8; 72], other: &mut Book, sheet: &mut Sheet) -> u32 {
     match copying::copy(book, out, other, sheet) {
         WriteAnswer::Written(n) => n,
         WriteAnswer::Refused(k) => k,
@@ -57,7 +57,7 @@ fn copy(
 }
 
 // The mast book's words, over those of a book that was opened fresh.
-fn store_mast(book: &mut [u32; 4737]) {
+fn store_mast(book: &mut Book) {
     book[3] = 1;
     book[4] = 10;
     book[131] = 65541;
@@ -74,7 +74,7 @@ fn store_mast(book: &mut [u32; 4737]) {
 }
 
 // Writes the state and the cost of a step, or the refusal.
-fn show_step(text: &[u8], book: &[u32; 4737], state: u32, command: u32) {
+fn show_step(text: &[u8], book: &Book, state: u32, command: u32) {
     match stepping::step(book, state, command) {
         StepAnswer::Moved { state, cost } => pair(text, state, cost),
         StepAnswer::Refused(k) => line(text, k),
@@ -93,27 +93,20 @@ fn write_front(text: &[u8], book: &[u32], out: &mut [u8], room: usize) {
 }
 
 // The same for a list of 72 bytes.
-fn show_write(text: &[u8], book: &[u32; 4737], out: &mut [u8; 72], room: usize) {
+fn show_write(text: &[u8], book: &Book, out: &mut [u8; 72], room: usize) {
     write_front(text, book, out, room);
 }
 
 // Writes the number that Choose leaves in its word, and the length of the part.
-fn show_choice<'a>(
-    text: &[u8],
-    book: &[u32; 4737],
-    a: u32,
-    b: u32,
-    first: &'a [u8],
-    second: &'a [u8],
-) {
+fn show_choice<'a>(text: &[u8], book: &Book, a: u32, b: u32, first: &'a [u8], second: &'a [u8]) {
     let mut word = 9999u32;
     let part = choosing::choose(book, a, b, first, second, &mut word);
     pair(text, word, (part.len() % 65536) as u32);
 }
 
 // Puts a word that tears the book, asks for a step, and puts the old word back.
-fn tear(text: &[u8], book: &mut [u32; 4737], at: usize, word: u32) {
-    if at < 4737 {
+fn tear(text: &[u8], book: &mut Book, at: usize, word: u32) {
+    if at < book::BOOK {
         let kept = book[at];
         book[at] = word;
         show_step(text, book, 0, 0);
@@ -145,14 +138,14 @@ fn open_short(book: &mut [u32], sheet: &mut [u32], words: usize) -> u32 {
 }
 
 // Opens fresh, first with a book that is a word too short, which must stay as it is.
-fn show_open(book: &mut [u32; 4737], sheet: &mut [u32; 2880]) {
+fn show_open(book: &mut Book, sheet: &mut Sheet) {
     line(b"open short: ", open_short(book, sheet, 4736));
-    line(b"untouched: ", same(book, &[7u32; 4737]));
+    line(b"untouched: ", same(book, &[7u32; book::BOOK]));
     line(b"open fresh: ", opening::open_fresh(book, sheet));
 }
 
 // Opens the ladder.
-fn open_ladder(book: &mut [u32; 4737], sheet: &mut [u32; 2880]) -> u32 {
+fn open_ladder(book: &mut Book, sheet: &mut Sheet) -> u32 {
     opening::open_ladder(book, sheet)
 }
 
@@ -168,13 +161,13 @@ fn step_short(book: &[u32], words: usize) {
 }
 
 // A step with a book that is a word too short.
-fn show_short(book: &[u32; 4737]) {
+fn show_short(book: &Book) {
     step_short(book, 4736);
 }
 
 fn main() {
-    let mut book = [7u32; 4737];
-    let mut sheet = [7u32; 2880];
+    let mut book = [7u32; book::BOOK];
+    let mut sheet = [7u32; sheet::SHEET];
     show_open(&mut book, &mut sheet);
     store_mast(&mut book);
     let before = book;

@@ -12,7 +12,7 @@ use Rattle.definitions.specs.Limits.{machines, nodes, commands}
 use Rattle.definitions.specs.Tree.{Tree}
 use Rattle.definitions.specs.Book.{number, transitionOf, under, nodeWord, machineWord, treeOf}
 use Rattle.definitions.specs.Sheet.{Rows, costOf, machineRowWord, nodeRowWord, rowsOf}
-use Rattle.definitions.proofs.Words.{same-tree, same-rows}
+use Rattle.definitions.proofs.Words.{same-nodes, same-machines, same-rows}
 use Rattle.book.specs.Fields.{withoutNode}
 use Rattle.book.proofs.Stores.{holds-then}
 use Rattle.sheet.specs.Fields.{withMark, withBlankMachine}
@@ -59,13 +59,12 @@ false-both false b s = refl
 
 nodes-both : (t : Tree) (a b : ℕ → Bool) → withoutNodes (withoutNodes t a) b ≡ withoutNodes t (λ k. a k || b k)
 nodes-both t a b =
-    same-tree _ _ refl (λ n. unless-both (a n) (b n) (t .owner n)) (λ n. unless-both (a n) (b n) (t .below n)) (λ m. refl) (λ m. refl)
+    same-nodes _ _ refl (λ n. unless-both (a n) (b n) (t .owner n)) (λ n. unless-both (a n) (b n) (t .below n))
     (λ n x. unless-both (a n) (b n) (t .transition n x))
 
 machines-both : (t : Tree) (a b : ℕ → Bool) → withoutMachines (withoutMachines t a) b ≡ withoutMachines t (λ k. a k || b k)
 machines-both t a b =
-    same-tree _ _ refl (λ n. refl) (λ n. refl) (λ m. unless-both (a m) (b m) (t .start m)) (λ m. unless-both (a m) (b m) (t .holder m))
-    (λ n x. refl)
+    same-machines _ _ refl (λ m. unless-both (a m) (b m) (t .start m)) (λ m. unless-both (a m) (b m) (t .holder m))
 
 machine-rows-both : (r : Rows) (a b : ℕ → Bool) → withoutMachineRows (withoutMachineRows r a) b ≡ withoutMachineRows r (λ k. a k || b k)
 machine-rows-both r a b =
@@ -80,8 +79,7 @@ spread true f x = refl
 spread false f x = refl
 
 node-one : (t : Tree) (i : ℕ) → withoutNode t i ≡ withoutNodes t (λ k. eqb k i)
-node-one t i =
-    same-tree _ _ refl (λ n. refl) (λ n. refl) (λ m. refl) (λ m. refl) (λ n x. spread (eqb n i) (t .transition n) x)
+node-one t i = same-nodes _ _ refl (λ n. refl) (λ n. refl) (λ n x. spread (eqb n i) (t .transition n) x)
 
 module _ (g : ℕ → Bool) (i : ℕ) where
   -- at first
@@ -176,8 +174,8 @@ module _ (g h : ℕ → Bool) where
   unfolding treeOf rowsOf under
   nodes-all agree b {s} left =
       left-same left
-      (same-tree _ _ refl (λ n. same-under nodes n g h (number (nodeWord b n 0)) none agree)
-      (λ n. same-under nodes n g h (number (nodeWord b n 1)) none agree) (λ m. refl) (λ m. refl)
+      (same-nodes _ _ refl (λ n. same-under nodes n g h (number (nodeWord b n 0)) none agree)
+      (λ n. same-under nodes n g h (number (nodeWord b n 1)) none agree)
       (λ n x. same-under nodes n g h (under commands x (transitionOf (nodeWord b n (2 + x)))) none agree))
       (same-rows _ _ (λ m. refl) (λ m x. refl) (λ m x. refl) (λ n. same-under nodes n g h (costOf (nodeRowWord s n 0)) none agree)
       (λ n. same-under nodes n g h (number (nodeRowWord s n 1)) none agree)
@@ -188,8 +186,8 @@ module _ (g h : ℕ → Bool) where
   unfolding treeOf rowsOf under
   machines-all agree b {s} left =
       left-same left
-      (same-tree _ _ refl (λ n. refl) (λ n. refl) (λ m. same-under machines m g h (number (machineWord b m 1)) none agree)
-      (λ m. same-under machines m g h (number (machineWord b m 0)) none agree) (λ n x. refl))
+      (same-machines _ _ refl (λ m. same-under machines m g h (number (machineWord b m 1)) none agree)
+      (λ m. same-under machines m g h (number (machineWord b m 0)) none agree))
       (same-rows _ _ (λ m. same-under machines m g h (eqb (machineRowWord s m 0) 1) false agree)
       (λ m x. same-under machines m g h (under commands x (costOf (machineRowWord s m (1 + x)))) none agree)
       (λ m x. same-under machines m g h (under commands x (number (machineRowWord s m (17 + x)))) none agree)

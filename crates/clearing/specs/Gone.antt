@@ -6,7 +6,7 @@ use Prim.Native.Nat.{ℕ}
 use lib.ListN.{length}
 use Rattle.definitions.specs.Basics.{unless}
 use Rattle.definitions.specs.Limits.{bookLength, sheetLength}
-use Rattle.definitions.specs.Tree.{Tree}
+use Rattle.definitions.specs.Tree.{Tree, withNodes, withMachines}
 use Rattle.definitions.specs.Book.{treeOf}
 use Rattle.definitions.specs.Sheet.{Rows, rowsOf}
 use Rattle.book.specs.Fields.{Holds, withoutNode, withoutMachine}
@@ -26,26 +26,11 @@ pub record Left (rs ws′ rs′ : List ℕ) (t : Tree) (r : Rows) : Type 0 where
 -- the tree where nothing is said of the nodes that pass the test
 abbrev pub withoutNodes : Tree → (ℕ → Bool) → Tree
 withoutNodes t gone =
-    record {
-      root = t .root;
-      owner = λ k. unless (gone k) (t .owner k);
-      below = λ k. unless (gone k) (t .below k);
-      start = t .start;
-      holder = t .holder;
-      transition = λ k x. unless (gone k) (t .transition k x);
-    }
+    withNodes t (λ k. unless (gone k) (t .owner k)) (λ k. unless (gone k) (t .below k)) (λ k x. unless (gone k) (t .transition k x))
 
 -- the tree where nothing is said of the machines that pass the test
 abbrev pub withoutMachines : Tree → (ℕ → Bool) → Tree
-withoutMachines t gone =
-    record {
-      root = t .root;
-      owner = t .owner;
-      below = t .below;
-      start = λ m. unless (gone m) (t .start m);
-      holder = λ m. unless (gone m) (t .holder m);
-      transition = t .transition;
-    }
+withoutMachines t gone = withMachines t (λ m. unless (gone m) (t .start m)) (λ m. unless (gone m) (t .holder m))
 
 -- the rows where the machines that pass the test are blank and not marked
 abbrev pub withoutMachineRows : Rows → (ℕ → Bool) → Rows

@@ -17,6 +17,7 @@ use Rattle.definitions.specs.Sheet.{Rows}
 use Rattle.definitions.specs.Truth.{BlankRule, TrueMachine}
 use Rattle.definitions.specs.Stream.{Edit, Command, edit, refresh}
 use Rattle.definitions.specs.Edit.{Test, _when_, firstHolding, lowest, apart, isStart, refusals, refusal, edited, touches, withStale, editedRows, treeAfter, RowsAfter, single, heldWithin, without, withTransition, withStart, Refreshed}
+use Rattle.definitions.proofs.Words.{unused-below, unused-transition, unused-holder}
 use Rattle.definitions.proofs.Path.{Deep, at-root, under, deep, deep-unique, path-root, path-on}
 use Rattle.definitions.proofs.Options.{present, none-some, some-same, decided, true-false, equal-or-not, put-same, put-other, isSome-true, isSome-false, isAt-true}
 
@@ -395,23 +396,11 @@ rows-left t u touched r blanks f =
           (λ e. blanks .unused-node k (f .node-kept k stays e) .by);
     }
 
--- ---- what is not in use is empty, and what is over or within a node
+-- ---- what is over or within a node
 
--- a node that is not in use is plain and has no transitions
-unused-plain : {t : Tree} → Sound t → {n : ℕ} → t .owner n ≡ none → t .below n ≡ none
-unused-plain {t} s {n} e =
-    ⊎-elim (λ h. h) (λ h. absurd (none-some e (s .holder-used _ n (s .below-held n _ (h .1)) .1))) (present (t .below n))
-
-unused-free : {t : Tree} → Sound t → {n : ℕ} → t .owner n ≡ none → (x : ℕ) → t .transition n x ≡ none
-unused-free {t} s {n} e x =
-    ⊎-elim (λ h. h) (λ h. absurd (none-some e (s .transition-owned n x _ (h .1) .1))) (present (t .transition n x))
-
--- a machine that is not in use has no nodes, and no node holds it
+-- a machine that is not in use has no nodes
 unused-empty : {t : Tree} → Sound t → {m : ℕ} → t .start m ≡ none → (k : ℕ) → t .owner k ≡ some m → ⊥
 unused-empty s {m} e k own = none-some e (s .owner-used k m own .1)
-
-unused-holder : {t : Tree} → Sound t → {m : ℕ} → t .start m ≡ none → t .holder m ≡ none
-unused-holder {t} s {m} e = ⊎-elim (λ h. h) (λ h. absurd (none-some e (s .held-used m _ (h .1) .1))) (present (t .holder m))
 
 -- some element passes the test
 any-of : (f : ℕ → Bool) (l : List ℕ) → anyOf f l ≡ true → (d : ℕ) × (f d ≡ true)
@@ -644,8 +633,8 @@ added t r m n s sound blanks ok st =
       start = λ k. refl;
       holder = λ k. refl;
       transition = λ k x. refl;
-      new-plain = unused-plain sound new;
-      new-free = unused-free sound new;
+      new-plain = unused-below t sound n new;
+      new-free = λ x. unused-transition t sound n x new;
       rows = rows-left t _ _ r blanks (fits-over sound _ s _ (λ p. rw st) (λ p f e. (f, e)) (still-some owner));
     }
 
@@ -684,8 +673,8 @@ refined t r n m s sound blanks ok =
       start = start;
       holder = changed (t .holder) m (some n);
       transition = λ k x. refl;
-      new-plain = below .elsewhere s apart-from ∙ unused-plain sound (taken .first-new);
-      new-free = unused-free sound (taken .first-new);
+      new-plain = below .elsewhere s apart-from ∙ unused-below t sound s (taken .first-new);
+      new-free = λ x. unused-transition t sound s x (taken .first-new);
       new-only = only-first sound (taken .machine-new) owner;
       rows = rows-left t _ _ r blanks (record {
         test-true = λ p. ⊎-elim (λ same. rw (eq-eqb p m same)) (λ h. rw h (or-true (eqb p m)));
@@ -839,8 +828,9 @@ pub started : (t : Tree) (r : Rows) (n m : ℕ) → Sound t → BlankRule t r �
     → Started t n m (edited t (Edit.start n)) r (editedRows t (Edit.start n) r)
 unfolding edited editedRows touches withStart
 started t r n m sound blanks own =
-    let start : Changed (t .start) m (some n) (edited t (Edit.start n) .start) = rw own (changed (t .start) m (some n)) in
-    record {
+    let start : Changed (t .start) m (some n) (put (t .start) m (some n)) = changed (t .start) m (some n) in
+    rw own
+    (record {
       root = refl;
       owner = λ k. refl;
       below = λ k. refl;
@@ -848,7 +838,7 @@ started t r n m sound blanks own =
       holder = λ k. refl;
       transition = λ k x. refl;
       rows = rows-left t _ _ r blanks (fits-over sound _ n _ (λ p. refl) (still-some start) (λ k p e. (p, e)));
-    }
+    })
 
 -- crown makes the new machine m root; its one node n, the start, holds the old root
 pub record Crowned (t : Tree) (m n : ℕ) (u : Tree) (r q : Rows) : Type 0 where
@@ -879,9 +869,9 @@ crowned t r m n sound blanks ok =
       start = start;
       holder = holder;
       transition = λ k x. refl;
-      new-free = unused-free sound (taken .node-new);
+      new-free = λ x. unused-transition t sound n x (taken .node-new);
       new-only = only-first sound (taken .machine-new) owner;
-      root-free = holder .elsewhere m not-old ∙ unused-holder sound (taken .machine-new);
+      root-free = holder .elsewhere m not-old ∙ unused-holder t sound m (taken .machine-new);
       rows = rows-left t _ _ r blanks (record {
         test-true = λ p same. eq-eqb p m same;
         test-false = λ p other. ne-eqb p m other;

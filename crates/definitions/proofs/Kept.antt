@@ -12,10 +12,10 @@ use lib.ListN.{drop}
 use borrow.Author.Tests.{eq-eqb, ne-eqb, eqb-false}
 use Rattle.definitions.specs.Basics.{_>>=_, unless, put, iterate, All}
 use Rattle.definitions.specs.Limits.{machines, nodes, commands, costs, levels}
-use Rattle.definitions.specs.Tree.{Tree, Transition, Sound, parent, level, within}
+use Rattle.definitions.specs.Tree.{Tree, Transition, withRoot, withStartOf, Sound, parent, level, within}
 use Rattle.definitions.specs.Stream.{Edit, begin, add, refine, remove, arrow, clear, start, crown, Command, edit, refresh}
 use Rattle.definitions.specs.Stream.{byteAt, pairAt, decode, taken}
-use Rattle.definitions.specs.Edit.{refusal, edited, single, heldWithin, without, withTransition, withStart, treeAfter}
+use Rattle.definitions.specs.Edit.{refusal, edited, single, heldWithin, without, withTransition, withStart, withMachine, withHeld, treeAfter}
 use Rattle.definitions.specs.Load.{next, load, expected}
 use Rattle.definitions.specs.Demand.{Bytes}
 use Rattle.definitions.proofs.Options.{bind-some, present, none-some, some-same, true-false, equal-or-not, put-same, put-other}
@@ -169,15 +169,7 @@ add-sound {t} s {m} {n} k =
 
 -- the tree with a new machine m whose one node is f, and with machine b held by node n
 abbrev grafted : Tree → (root m f b n : ℕ) → Tree
-grafted t root m f b n =
-    record {
-      root = root;
-      owner = put (t .owner) f (some m);
-      below = put (t .below) n (some b);
-      start = put (t .start) m (some f);
-      holder = put (t .holder) b (some n);
-      transition = t .transition;
-    }
+grafted t root m f b n = withRoot (withHeld (withMachine t m f) n b) root
 
 -- the new numbers are in range and were not in use, n and b were not refined and held, and are in use after
 record Graft (t : Tree) (m f b n : ℕ) : Type 0 where
@@ -434,20 +426,8 @@ clear-sound s n x = transition-sound s n x none (λ a e. absurd (none-some refl 
 
 -- ---- start
 
--- the tree with node n as the start of machine m
-abbrev restarted : Tree → (n m : ℕ) → Tree
-restarted t n m =
-    record {
-      root = t .root;
-      owner = t .owner;
-      below = t .below;
-      start = put (t .start) m (some n);
-      holder = t .holder;
-      transition = t .transition;
-    }
-
 -- the tree with another start node of a machine
-restarted-sound : {t : Tree} → Sound t → {n m : ℕ} → t .owner n ≡ some m → Sound (restarted t n m)
+restarted-sound : {t : Tree} → Sound t → {n m : ℕ} → t .owner n ≡ some m → Sound (withStartOf t m (some n))
 restarted-sound {t} s {n} {m} own =
     record {
       root-used = let (f, used) = s .root-used in put-still (t .start) m n (t .root) used;
@@ -462,7 +442,7 @@ restarted-sound {t} s {n} {m} own =
       held-used = λ p i e. let (f, used) = s .held-used p i e in put-still (t .start) m n p used;
       transition-range = s .transition-range;
       transition-owned = s .transition-owned;
-      climbs = λ p f e. let (g, used) = was p f e in climbs-kept s (restarted t n m) refl (λ q h a. a) (λ i q a. a) p g used;
+      climbs = λ p f e. let (g, used) = was p f e in climbs-kept s (withStartOf t m (some n)) refl (λ q h a. a) (λ i q a. a) p g used;
     }
   where
     was : (p f : ℕ) → put (t .start) m (some n) p ≡ some f → (g : ℕ) × (t .start p ≡ some g)

@@ -15,7 +15,7 @@ use lib.ListN.{length, getD, length-append}
 use lib.Seq.{ext-getD}
 use borrow.Author.Tests.{ltb-true, ltb-false, lt-ltb, le-ltb, eqb-true, ne-eqb}
 use Rattle.definitions.specs.Limits.{machines, nodes, commands, costs, bookLength, sheetLength, absent, blank}
-use Rattle.definitions.specs.Tree.{Tree, Transition, Sound}
+use Rattle.definitions.specs.Tree.{Tree, Transition, withRoot, withNodes, withMachines, Sound}
 use Rattle.definitions.specs.Book.{machineFields, nodeFields, machineBase, nodeBase, machineWords, nodeWords, encode}
 use Rattle.definitions.specs.Book.{word, transitionWord, machineField, nodeField, number, transitionOf, under}
 use Rattle.definitions.specs.Book.{machineWord, nodeWord, treeOf, WellFormed}
@@ -275,14 +275,19 @@ pub same-tree : (t u : Tree) → t .root ≡ u .root → ((n : ℕ) → t .owner
     → ((n x : ℕ) → t .transition n x ≡ u .transition n x) → t ≡ u
 same-tree t u root owner below start holder transition =
     λ i.
-    record {
-      root = root i;
-      owner = λ n. owner n i;
-      below = λ n. below n i;
-      start = λ m. start m i;
-      holder = λ m. holder m i;
-      transition = λ n x. transition n x i;
-    }
+    withRoot
+    (withMachines (withNodes t (λ n. owner n i) (λ n. below n i) (λ n x. transition n x i)) (λ m. start m i) (λ m. holder m i))
+    (root i)
+
+-- two trees that differ at most in what they say of nodes, and say the same of every node, are one tree
+pub same-nodes : (t u : Tree) → withNodes t (u .owner) (u .below) (u .transition) ≡ u → ((n : ℕ) → t .owner n ≡ u .owner n)
+    → ((n : ℕ) → t .below n ≡ u .below n) → ((n x : ℕ) → t .transition n x ≡ u .transition n x) → t ≡ u
+same-nodes t u rest owner below transition = (λ i. withNodes t (λ n. owner n i) (λ n. below n i) (λ n x. transition n x i)) ∙ rest
+
+-- and so are two that differ at most in what they say of machines
+pub same-machines : (t u : Tree) → withMachines t (u .start) (u .holder) ≡ u → ((m : ℕ) → t .start m ≡ u .start m)
+    → ((m : ℕ) → t .holder m ≡ u .holder m) → t ≡ u
+same-machines t u rest start holder = (λ i. withMachines t (λ m. start m i) (λ m. holder m i)) ∙ rest
 
 -- two rows with the same fields at every number are the same
 pub same-rows : (r q : Rows) → ((m : ℕ) → r .stale m ≡ q .stale m) → ((m x : ℕ) → r .exit m x ≡ q .exit m x)

@@ -8,7 +8,8 @@ use Prim.Native.Nat.{ℕ}
 use lib.Dec.{eqb, ltb}
 use Rattle.definitions.specs.Basics.{_>>=_, option, unless, isSome, isAt, put, anyBelow}
 use Rattle.definitions.specs.Limits.{machines, nodes, commands, levels}
-use Rattle.definitions.specs.Tree.{Tree, Transition, usedMachine, usedNode, level, within, over}
+use Rattle.definitions.specs.Tree.{Tree, Transition, withRoot, withOwner, withBelow, withTransitions, withStartOf, withHolder}
+use Rattle.definitions.specs.Tree.{usedMachine, usedNode, level, within, over}
 use Rattle.definitions.specs.Sheet.{Rows}
 use Rattle.definitions.specs.Truth.{TrueRows}
 use Rattle.definitions.specs.Stream.{Edit, begin, add, refine, remove, arrow, clear, start, crown, Command, edit, refresh}
@@ -97,63 +98,32 @@ without t n =
 
 -- the tree with o as the transition of node n for x
 unfoldable pub withTransition : Tree → ℕ → ℕ → Option Transition → Tree
-withTransition t n x o =
-    record {
-      root = t .root;
-      owner = t .owner;
-      below = t .below;
-      start = t .start;
-      holder = t .holder;
-      transition = put (t .transition) n (put (t .transition n) x o);
-    }
+withTransition t n x o = withTransitions t (put (t .transition) n (put (t .transition n) x o))
 
 -- the tree with node n as the start of its machine
 unfoldable pub withStart : Tree → ℕ → Tree
-withStart t n =
-    record {
-      root = t .root;
-      owner = t .owner;
-      below = t .below;
-      start = option (t .start) (λ m. put (t .start) m (some n)) (t .owner n);
-      holder = t .holder;
-      transition = t .transition;
-    }
+withStart t n = option t (λ m. withStartOf t m (some n)) (t .owner n)
+
+-- the tree with machine m in use, whose one node is n, its start
+abbrev pub withMachine : Tree → ℕ → ℕ → Tree
+withMachine t m n = withStartOf (withOwner t n (some m)) m (some n)
+
+-- the tree with machine m below node n
+abbrev pub withHeld : Tree → ℕ → ℕ → Tree
+withHeld t n m = withHolder (withBelow t n (some m)) m (some n)
 
 -- The tree after an edit that is taken. A number that is not in use holds nothing, has no transitions and owns no node (Sound), so a
--- new node has no transitions and, but for crown's, is plain, and a new machine has only its start node.
+-- new node has no transitions and, but for crown's, is plain, and a new machine has only its start node. A refined node keeps its
+-- transitions.
 unfoldable pub edited : Tree → Edit → Tree
 edited t (begin m n) = single m n
-edited t (add m n) =
-    record {
-      root = t .root;
-      owner = put (t .owner) n (some m);
-      below = t .below;
-      start = t .start;
-      holder = t .holder;
-      transition = t .transition;
-    }
-edited t (refine n m s) =
-    record {
-      root = t .root;
-      owner = put (t .owner) s (some m);
-      below = put (t .below) n (some m);
-      start = put (t .start) m (some s);
-      holder = put (t .holder) m (some n);
-      transition = t .transition;  -- the refined node keeps its own
-    }
+edited t (add m n) = withOwner t n (some m)
+edited t (refine n m s) = withHeld (withMachine t m s) n m
 edited t (remove n) = without t n
 edited t (arrow n x v c) = withTransition t n x (some (record { target = v; cost = c }))
 edited t (clear n x) = withTransition t n x none
 edited t (start n) = withStart t n
-edited t (crown m n) =
-    record {
-      root = m;
-      owner = put (t .owner) n (some m);
-      below = put (t .below) n (some (t .root));
-      start = put (t .start) m (some n);
-      holder = put (t .holder) (t .root) (some n);
-      transition = t .transition;
-    }
+edited t (crown m n) = withRoot (withHeld (withMachine t m n) n (t .root)) m
 
 -- the tree after a command that is taken; a refresh changes nothing
 abbrev pub treeAfter : Tree → Command → Tree

@@ -6,7 +6,7 @@ use mathlib.Core.List.{List, [], _∷_}
 use Prim.Native.Nat.{ℕ, zero, suc, _<_}
 use lib.Dec.{eqb}
 use lib.ListN.{length}
-use Rattle.definitions.specs.Basics.{_>>=_, option, isSome, isAt, iterate, countBelow, anyOf}
+use Rattle.definitions.specs.Basics.{_>>=_, option, isSome, isAt, put, iterate, countBelow, anyOf}
 use Rattle.definitions.specs.Limits.{machines, nodes, commands, costs, levels}
 
 -- one transition of a node (document 01: an arrow and its charge)
@@ -28,6 +28,62 @@ pub record Tree : Type 0 where
   pub holder : ℕ → Option ℕ
   -- the transition of a node for a command
   pub transition : ℕ → ℕ → Option Transition
+
+-- the tree with m as its root
+abbrev pub withRoot : Tree → ℕ → Tree
+withRoot t m =
+    record {
+      root = m;
+      owner = t .owner;
+      below = t .below;
+      start = t .start;
+      holder = t .holder;
+      transition = t .transition;
+    }
+
+-- the tree with other fields of its nodes
+abbrev pub withNodes : Tree → (owner below : ℕ → Option ℕ) → (transition : ℕ → ℕ → Option Transition) → Tree
+withNodes t owner below transition =
+    record {
+      root = t .root;
+      owner = owner;
+      below = below;
+      start = t .start;
+      holder = t .holder;
+      transition = transition;
+    }
+
+-- the tree with other fields of its machines
+abbrev pub withMachines : Tree → (start holder : ℕ → Option ℕ) → Tree
+withMachines t start holder =
+    record {
+      root = t .root;
+      owner = t .owner;
+      below = t .below;
+      start = start;
+      holder = holder;
+      transition = t .transition;
+    }
+
+-- the tree with o as the owner of node n
+abbrev pub withOwner : Tree → ℕ → Option ℕ → Tree
+withOwner t n o = withNodes t (put (t .owner) n o) (t .below) (t .transition)
+
+-- the tree with o as the machine below node n
+abbrev pub withBelow : Tree → ℕ → Option ℕ → Tree
+withBelow t n o = withNodes t (t .owner) (put (t .below) n o) (t .transition)
+
+-- the tree with other transitions
+abbrev pub withTransitions : Tree → (ℕ → ℕ → Option Transition) → Tree
+withTransitions t transition = withNodes t (t .owner) (t .below) transition
+
+-- the tree with o as the start node of machine m
+abbrev pub withStartOf : Tree → ℕ → Option ℕ → Tree
+withStartOf t m o = withMachines t (put (t .start) m o) (t .holder)
+
+-- the tree with o as the node that holds machine m
+abbrev pub withHolder : Tree → ℕ → Option ℕ → Tree
+withHolder t m o = withMachines t (t .start) (put (t .holder) m o)
 
 -- whether a machine, a node is in use
 abbrev pub usedMachine : Tree → ℕ → Bool

@@ -7,7 +7,7 @@ use Prim.Native.Nat.{ℕ, _+_, _*_, _<_}
 use native.Mathlib.Omega.{arith}
 use borrow.Author.Tests.{ne-eqb}
 use Rattle.definitions.specs.Limits.{machines, nodes, costs, absent, blank}
-use Rattle.definitions.specs.Tree.{Tree, Transition, UsedNode}
+use Rattle.definitions.specs.Tree.{Tree, Transition, withRoot, withOwner, withBelow, withStartOf, withHolder, UsedNode}
 use Rattle.definitions.specs.Book.{word, transitionWord, number, transitionOf, treeOf}
 use Rattle.definitions.specs.Sheet.{rowsOf}
 use Rattle.definitions.specs.Stream.{Edit}
@@ -15,7 +15,7 @@ use Rattle.definitions.specs.Edit.{edited, withTransition, withStart}
 use Rattle.definitions.proofs.Words.{transition-word}
 use Rattle.definitions.proofs.Commands.{TakenAdd, TakenRefine, TakenArrow, TakenClear, TakenStart, TakenCrown}
 use Rattle.definitions.proofs.Commands.{taken-add, taken-refine, taken-arrow, taken-clear, taken-start, taken-crown}
-use Rattle.book.specs.Fields.{Holds, withRoot, withOwner, withBelow, withStartOf, withHolder}
+use Rattle.book.specs.Fields.{Holds}
 use Rattle.book.proofs.Stores.{holds-then}
 use Rattle.sheet.specs.Fields.{Leaves, withMark}
 use Rattle.sheet.proofs.Stores.{leaves-then}

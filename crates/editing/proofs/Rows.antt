@@ -8,7 +8,7 @@ use Prim.Native.Nat.{ℕ}
 use lib.Dec.{eqb}
 use borrow.Author.Tests.{eq-eqb, ne-eqb}
 use Rattle.definitions.specs.Basics.{option, unless, isSome, put}
-use Rattle.definitions.specs.Tree.{Tree, Sound, over}
+use Rattle.definitions.specs.Tree.{Tree, withStartOf, Sound, over}
 use Rattle.definitions.specs.Sheet.{Rows, rowsOf}
 use Rattle.definitions.specs.Truth.{BlankRule}
 use Rattle.definitions.specs.Stream.{Edit}
@@ -96,11 +96,10 @@ pub start-rows : {t : Tree} → Sound t → (n m : ℕ) → t .owner n ≡ some 
     → withStale t (λ p. over t p n) r ≡ editedRows t (Edit.start n) r
 unfolding edited editedRows touches withStart
 start-rows {t} sound n m own r =
-    same-stale t (edited t (Edit.start n)) (λ p. over t p n) r
-    (λ p.
     rw own
-    (⊎-elim (λ e. rw (eq-eqb p m e, ap (t .start) e ∙ sound .owner-used n m own .1)) (λ ne. rw (ne-eqb p m ne)) (equal-or-not p m)))
-    (λ k. refl)
+    (same-stale t (withStartOf t m (some n)) (λ p. over t p n) r
+    (λ p. ⊎-elim (λ e. rw (eq-eqb p m e, ap (t .start) e ∙ sound .owner-used n m own .1)) (λ ne. rw (ne-eqb p m ne)) (equal-or-not p m))
+    (λ k. refl))
 
 -- crown: only the new machine is marked
 pub crown-rows : {t : Tree} → Sound t → (m n : ℕ) → TakenCrown t m n → (ws : List ℕ) → BlankRule t (rowsOf ws)

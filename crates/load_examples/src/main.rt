@@ -3,6 +3,11 @@
 use exiting::ExitAnswer;
 use libc::STDOUT_FILENO;
 
+// A book and a sheet.
+type Book = [u32; book::BOOK];
+
+type Sheet = [u32; sheet::SHEET];
+
 // Writes a space and a number.
 fn number(n: u64) {
     io::write_all(STDOUT_FILENO, b" ");
@@ -15,7 +20,7 @@ fn wide(n: usize) -> u64 {
 }
 
 // Loads a stream and writes the bytes taken, the commands taken and the refusal.
-fn show_load(text: &[u8], book: &mut [u32; 4737], sheet: &mut [u32; 2880], stream: &[u8]) {
+fn show_load(text: &[u8], book: &mut Book, sheet: &mut Sheet, stream: &[u8]) {
     let answer = loading::load(book, sheet, stream);
     io::write_all(STDOUT_FILENO, text);
     number(wide(answer.bytes));
@@ -25,7 +30,7 @@ fn show_load(text: &[u8], book: &mut [u32; 4737], sheet: &mut [u32; 2880], strea
 }
 
 // Writes an exit cost, or `no` and the refusal.
-fn show_exit(text: &[u8], book: &[u32; 4737], sheet: &[u32; 2880], machine: u32, command: u32) {
+fn show_exit(text: &[u8], book: &Book, sheet: &Sheet, machine: u32, command: u32) {
     io::write_all(STDOUT_FILENO, text);
     match exiting::exit(book, sheet, machine, command) {
         ExitAnswer::Costs(c) => number(c as u64),
@@ -38,8 +43,8 @@ fn show_exit(text: &[u8], book: &[u32; 4737], sheet: &[u32; 2880], machine: u32,
 }
 
 // Puts a false word into the sheet, asks for an exit cost, and puts the old word back.
-fn falsify(text: &[u8], book: &[u32; 4737], sheet: &mut [u32; 2880], at: usize, word: u32) {
-    if at < 2880 {
+fn falsify(text: &[u8], book: &Book, sheet: &mut Sheet, at: usize, word: u32) {
+    if at < sheet::SHEET {
         let kept = sheet[at];
         sheet[at] = word;
         show_exit(text, book, sheet, 0, 0);
@@ -48,12 +53,12 @@ fn falsify(text: &[u8], book: &[u32; 4737], sheet: &mut [u32; 2880], at: usize, 
 }
 
 // Opens fresh.
-fn open(book: &mut [u32; 4737], sheet: &mut [u32; 2880]) {
+fn open(book: &mut Book, sheet: &mut Sheet) {
     opening::open_fresh(book, sheet);
 }
 
 // A name in another machine whose cost and transition give the right sum, and a circle of names that costs nothing.
-fn false_names(book: &mut [u32; 4737], sheet: &mut [u32; 2880]) {
+fn false_names(book: &mut Book, sheet: &mut Sheet) {
     show_load(
         b"two machines alike:",
         book,
@@ -79,7 +84,7 @@ fn false_names(book: &mut [u32; 4737], sheet: &mut [u32; 2880]) {
 }
 
 // Eight levels, then a ninth below them and a ninth above them.
-fn nine_levels(book: &mut [u32; 4737], sheet: &mut [u32; 2880]) {
+fn nine_levels(book: &mut Book, sheet: &mut Sheet) {
     show_load(
         b"level 8:",
         book,
@@ -96,7 +101,7 @@ fn nine_levels(book: &mut [u32; 4737], sheet: &mut [u32; 2880]) {
 }
 
 // The mast book loaded, refreshed, and asked for its exit costs.
-fn mast_book(book: &mut [u32; 4737], sheet: &mut [u32; 2880]) {
+fn mast_book(book: &mut Book, sheet: &mut Sheet) {
     show_load(
         b"mast book:",
         book,
@@ -114,7 +119,7 @@ fn mast_book(book: &mut [u32; 4737], sheet: &mut [u32; 2880]) {
 }
 
 // Each refusal of a command, 4 to 11.
-fn refusals(book: &mut [u32; 4737], sheet: &mut [u32; 2880]) {
+fn refusals(book: &mut Book, sheet: &mut Sheet) {
     show_load(b"unknown opcode:", book, sheet, b"\x19\x00\x00\x00\x02");
     show_load(b"cut short:", book, sheet, b"\x14\x00\x00\x00");
     show_load(b"node 256:", book, sheet, b"\x11\x00\x01\x00");
@@ -136,7 +141,7 @@ fn refusals(book: &mut [u32; 4737], sheet: &mut [u32; 2880]) {
 }
 
 // Sheets with one false word, one for each kind of word.
-fn false_words(book: &mut [u32; 4737], sheet: &mut [u32; 2880]) {
+fn false_words(book: &mut Book, sheet: &mut Sheet) {
     falsify(b"mark of two:", book, sheet, 0, 2);
     falsify(b"exit cost one off:", book, sheet, 1, 6);
     falsify(b"last node that has a transition:", book, sheet, 17, 0);
@@ -150,7 +155,7 @@ fn false_words(book: &mut [u32; 4737], sheet: &mut [u32; 2880]) {
 }
 
 // A stream that is refused on its way: what stands before the refused command is done.
-fn stopped(book: &mut [u32; 4737], sheet: &mut [u32; 2880]) {
+fn stopped(book: &mut Book, sheet: &mut Sheet) {
     show_load(
         b"two taken, one refused, one not reached:",
         book,
@@ -164,8 +169,8 @@ fn stopped(book: &mut [u32; 4737], sheet: &mut [u32; 2880]) {
 }
 
 fn main() {
-    let mut book = [0u32; 4737];
-    let mut sheet = [0u32; 2880];
+    let mut book = [0u32; book::BOOK];
+    let mut sheet = [0u32; sheet::SHEET];
     open(&mut book, &mut sheet);
     mast_book(&mut book, &mut sheet);
     refusals(&mut book, &mut sheet);

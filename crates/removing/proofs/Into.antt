@@ -11,11 +11,11 @@ use lib.ListN.{length}
 use borrow.Author.Tests.{ltb-true, ltb-false, lt-ltb, le-ltb, eq-eqb, ne-eqb}
 use Rattle.definitions.specs.Basics.{put}
 use Rattle.definitions.specs.Limits.{nodes, commands, costs, bookLength, blank}
-use Rattle.definitions.specs.Tree.{Tree, Transition}
+use Rattle.definitions.specs.Tree.{Tree, Transition, withTransitions}
 use Rattle.definitions.specs.Book.{transitionWord, transitionOf, under, nodeWord, treeOf}
 use Rattle.definitions.specs.Edit.{withTransition}
 use Rattle.definitions.proofs.Options.{equal-or-not, none-some, some-same}
-use Rattle.book.specs.Fields.{Holds, withTransitions}
+use Rattle.book.specs.Fields.{Holds}
 use Rattle.book.proofs.Places.{grid-past}
 use Rattle.book.proofs.Stores.{holds-then}
 use Rattle.removing.specs.Within.{notInto, withoutIntoAt}

@@ -11,13 +11,13 @@ use lib.ListN.{length}
 use borrow.Author.Tests.{le-ltb, eq-eqb, ne-eqb}
 use Rattle.definitions.specs.Basics.{option, unless, put}
 use Rattle.definitions.specs.Limits.{machines, nodes, commands, sheetLength, absent}
-use Rattle.definitions.specs.Tree.{Tree, Transition, UsedNode, within}
+use Rattle.definitions.specs.Tree.{Tree, Transition, withNodes, withTransitions, UsedNode, within}
 use Rattle.definitions.specs.Book.{word, number, transitionOf, under, nodeWord, treeOf, WellFormed}
 use Rattle.definitions.specs.Sheet.{Rows, costOf, nodeRowWord, rowsOf}
 use Rattle.definitions.specs.Edit.{heldWithin}
 use Rattle.definitions.proofs.Options.{some-same, equal-or-not}
-use Rattle.definitions.proofs.Words.{same-tree, same-rows, present-word, absent-word, owner-range}
-use Rattle.book.specs.Fields.{Holds, withTransitions}
+use Rattle.definitions.proofs.Words.{same-rows, present-word, absent-word, owner-range}
+use Rattle.book.specs.Fields.{Holds}
 use Rattle.stepping.proofs.Laws.{owner-told}
 use Rattle.book.specs.Chosen.{chosen}
 use Rattle.sheet.specs.Fields.{withBlankNodes}
@@ -89,8 +89,7 @@ module _ (book : List ℕ) (gone : ℕ → Bool) (n k : ℕ) where
       (row-kept (rowsOf sheet) ∙ row-by (rowsOf sheet) gone k off)
     where
       record-kept : (t : Tree) → withoutIntoAt t n k ≡ withNodeOf t (withoutInto t n) k
-      record-kept t =
-          same-tree _ _ refl (at (sym (put-own (t .owner) k))) (at (sym (put-own (t .below) k))) (λ m. refl) (λ m. refl) (λ j x. refl)
+      record-kept t = sym (λ i. withNodes t (put-own (t .owner) k i) (put-own (t .below) k i) (withoutIntoAt t n k .transition))
 
       row-kept : (r : Rows) → r ≡ withRowOf r r k
       row-kept r =
@@ -125,14 +124,7 @@ module _ (book : List ℕ) (gone : ℕ → Bool) (n k : ℕ) where
 -- the tree with the records that u has of the nodes below i, and rows with the rows that q has of them
 abbrev pub treeTo : Tree → Tree → ℕ → Tree
 treeTo t u i =
-    record {
-      root = t .root;
-      owner = grown (t .owner) (u .owner) i;
-      below = grown (t .below) (u .below) i;
-      start = t .start;
-      holder = t .holder;
-      transition = grown (t .transition) (u .transition) i;
-    }
+    withNodes t (grown (t .owner) (u .owner) i) (grown (t .below) (u .below) i) (grown (t .transition) (u .transition) i)
 
 abbrev pub rowsTo : Rows → Rows → ℕ → Rows
 rowsTo r q i =
@@ -148,8 +140,8 @@ rowsTo r q i =
 -- at first
 tree-none : (t u : Tree) → t ≡ treeTo t u 0
 tree-none t u =
-    same-tree _ _ refl (at (grown-none (t .owner) (u .owner))) (at (grown-none (t .below) (u .below))) (λ m. refl) (λ m. refl)
-    (λ k. at (at (grown-none (t .transition) (u .transition)) k))
+    λ i.
+    withNodes t (grown-none (t .owner) (u .owner) i) (grown-none (t .below) (u .below) i) (grown-none (t .transition) (u .transition) i)
 
 rows-none : (r q : Rows) → r ≡ rowsTo r q 0
 rows-none r q =
@@ -163,8 +155,9 @@ grown-on f g i e = ap (put (grown f g i) i) e ∙ grown-more f g i
 tree-more : (t u v : Tree) (i : ℕ) → v .owner i ≡ u .owner i → v .below i ≡ u .below i → v .transition i ≡ u .transition i
     → withNodeOf (treeTo t u i) v i ≡ treeTo t u (i + 1)
 tree-more t u v i owner below transition =
-    same-tree _ _ refl (at (grown-on (t .owner) (u .owner) i owner)) (at (grown-on (t .below) (u .below) i below)) (λ m. refl) (λ m. refl)
-    (λ k. at (at (grown-on (t .transition) (u .transition) i transition) k))
+    λ j.
+    withNodes t (grown-on (t .owner) (u .owner) i owner j) (grown-on (t .below) (u .below) i below j)
+    (grown-on (t .transition) (u .transition) i transition j)
 
 rows-more : (r q p : Rows) (i : ℕ) → p .cost i ≡ q .cost i → p .before i ≡ q .before i → p .by i ≡ q .by i
     → withRowOf (rowsTo r q i) p i ≡ rowsTo r q (i + 1)
@@ -208,23 +201,16 @@ module _ (ws : List ℕ) (test : ℕ → Bool) where
   cut-all : (n : ℕ) → treeTo (treeOf ws) (cut (treeOf ws) test n) nodes ≡ cut (treeOf ws) test n
   unfolding treeOf
   cut-all n =
-      same-tree _ _ refl
-      (at
-      (grown-all (treeOf ws .owner) (cut (treeOf ws) test n .owner) nodes
-      (λ k past. let free = past-none k (number (nodeWord ws k 0)) past in stays-none (test k) free free)))
-      (at
-      (grown-all (treeOf ws .below) (cut (treeOf ws) test n .below) nodes
-      (λ k past. let free = past-none k (number (nodeWord ws k 1)) past in stays-none (test k) free free)))
-      (λ m. refl)
-      (λ m. refl)
-      (λ k.
-      at
-      (at
-      (grown-all (treeOf ws .transition) (cut (treeOf ws) test n .transition) nodes
+      let owner = grown-all (treeOf ws .owner) (cut (treeOf ws) test n .owner) nodes
+      (λ k past. let free = past-none k (number (nodeWord ws k 0)) past in stays-none (test k) free free) in
+      let below = grown-all (treeOf ws .below) (cut (treeOf ws) test n .below) nodes
+      (λ k past. let free = past-none k (number (nodeWord ws k 1)) past in stays-none (test k) free free) in
+      let transition = grown-all (treeOf ws .transition) (cut (treeOf ws) test n .transition) nodes
       (λ k past.
       fun-ext λ x.
       let free = past-none k (under commands x (transitionOf (nodeWord ws k (2 + x)))) past in
-      stays-none (test k) free (ap (notInto n) free))) k))
+      stays-none (test k) free (ap (notInto n) free)) in
+      λ i. withNodes (treeOf ws) (owner i) (below i) (transition i)
 
   blank-all : rowsTo (rowsOf ws) (withBlankNodes (rowsOf ws) test) nodes ≡ withBlankNodes (rowsOf ws) test
   unfolding rowsOf

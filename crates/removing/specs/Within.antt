@@ -9,10 +9,9 @@ use lib.Dec.{eqb}
 use lib.ListN.{length}
 use Rattle.definitions.specs.Basics.{_>>=_, unless, put}
 use Rattle.definitions.specs.Limits.{machines}
-use Rattle.definitions.specs.Tree.{Tree, Transition, within}
+use Rattle.definitions.specs.Tree.{Tree, Transition, withNodes, withTransitions, within}
 use Rattle.definitions.specs.Book.{treeOf}
 use Rattle.definitions.specs.Sheet.{Rows, rowsOf}
-use Rattle.book.specs.Fields.{withTransitions}
 use Rattle.book.specs.Chosen.{chosen}
 use Rattle.sheet.specs.Fields.{withBlankNodes}
 use Rattle.marking.specs.Stale.{ownedBy}
@@ -45,14 +44,7 @@ cut t gone n = withoutNodes (withoutInto t n) gone
 -- the tree with the record of node k that u has, and rows with the row of node k that q has
 abbrev pub withNodeOf : Tree → Tree → ℕ → Tree
 withNodeOf t u k =
-    record {
-      root = t .root;
-      owner = put (t .owner) k (u .owner k);
-      below = put (t .below) k (u .below k);
-      start = t .start;
-      holder = t .holder;
-      transition = put (t .transition) k (u .transition k);
-    }
+    withNodes t (put (t .owner) k (u .owner k)) (put (t .below) k (u .below k)) (put (t .transition) k (u .transition k))
 
 abbrev pub withRowOf : Rows → Rows → ℕ → Rows
 withRowOf r q k =

@@ -1,20 +1,20 @@
 -- The tree that stands after the commands before a place of Write's stream, from begin's one machine to the whole tree, and what the
 -- command at a place makes of it. Assumes nothing.
-use mathlib.Core.Path.{_≡_, refl, sym, ap, subst, _∙_}
-use mathlib.Core.Logic.{⊎-elim}
+use mathlib.Core.Path.{_≡_, refl, sym, ap, _∙_, fun-ext}
+use mathlib.Core.Logic.{_⊎_, inl, inr, ⊎-elim}
 use mathlib.Core.Bool.{Bool, true, false, cond}
 use mathlib.Core.Option.{Option, none, some}
 use Prim.Native.Nat.{ℕ, suc, _≤_, _<_}
 use native.Mathlib.Decide.{decLe}
 use native.Mathlib.Omega.{arith}
 use lib.Dec.{ltb}
-use borrow.Author.Tests.{lt-ltb, le-ltb, ltb-true}
+use borrow.Author.Tests.{lt-ltb, le-ltb, eq-eqb, ne-eqb}
 use Rattle.definitions.specs.Basics.{put}
 use Rattle.definitions.specs.Limits.{nodes, commands, levels}
-use Rattle.definitions.specs.Tree.{Tree, Transition, Sound, above, level}
+use Rattle.definitions.specs.Tree.{Tree, Transition, withNodes, Sound, above, level}
 use Rattle.definitions.specs.Stream.{add, refine, arrow}
 use Rattle.definitions.specs.Edit.{single, withTransition, edited}
-use Rattle.definitions.proofs.Options.{bind-some, none-some, some-same, equal-or-not, put-same, put-other}
+use Rattle.definitions.proofs.Options.{bind-some, present, none-some, some-same, equal-or-not}
 use Rattle.definitions.proofs.Words.{same-tree, owner-range, start-range, target-range}
 use Rattle.definitions.proofs.Path.{root-holder}
 use Rattle.definitions.proofs.Commands.{TakenAdd, TakenRefine, TakenArrow}
@@ -26,77 +26,75 @@ use Rattle.samebook.proofs.Clock.{node-at-add, machine-at-add, refine-a
 
 -- ---- values that come at their place
 
--- o, once its place w is before T
-abbrev pub passed : {A : Type 0} → ℕ → ℕ → Option A → Option A
-passed T w o = cond (ltb w T) o none
+-- v, once its place w is before T, and before that e, the empty value
+abbrev passed : {A : Type 0} → A → ℕ → ℕ → A → A
+passed e T w v = cond (ltb w T) v e
 
--- it is there
-pub passed-in : {A : Type 0} (T w : ℕ) (o : Option A) → w < T → passed T w o ≡ o
-passed-in T w o h = rw (lt-ltb w T h)
+-- a value that may be absent is empty, or is there and what follows from that holds
+given : {A P : Type 0} {o : Option A} → ((a : A) → o ≡ some a → P) → (o ≡ none) ⊎ P
+given {o = o} h = ⊎-elim inl (λ is. inr (h (is .0) (is .1))) (present o)
 
--- it is not there yet
-pub passed-out : {A : Type 0} (T w : ℕ) (o : Option A) → T ≤ w → passed T w o ≡ none
-passed-out T w o h = rw (le-ltb w T h)
+module _ {A : Type 0} (e : A) (T w : ℕ) (v : A) where
+  -- it is there
+  passed-in : w < T → passed e T w v ≡ v
+  passed-in h = rw (lt-ltb w T h)
 
--- nothing never comes
-passed-none : {A : Type 0} (T w : ℕ) → passed {A = A} T w none ≡ none
-passed-none {A} T w = go (ltb w T)
-  where
-    go : (b : Bool) → cond {A = Option A} b none none ≡ none
-    go true = refl
-    go false = refl
+  -- it is not there yet
+  passed-out : T ≤ w → passed e T w v ≡ e
+  passed-out h = rw (le-ltb w T h)
 
--- it is there, if it is anywhere and its place has passed
-pub passed-all : {A : Type 0} (T w : ℕ) (o : Option A) → ((a : A) → o ≡ some a → w < T) → passed T w o ≡ o
-passed-all T w none early = passed-none T w
-passed-all T w (some a) early = passed-in T w (some a) (early a refl)
+  -- the empty value never comes
+  passed-empty : v ≡ e → passed e T w v ≡ e
+  passed-empty empty = go (ltb w T)
+    where
+      go : (b : Bool) → cond b v e ≡ e
+      go true = empty
+      go false = refl
 
--- it is not there yet, if it is anywhere
-pub passed-late : {A : Type 0} (T w : ℕ) (o : Option A) → ((a : A) → o ≡ some a → T ≤ w) → passed T w o ≡ none
-passed-late T w none late = passed-none T w
-passed-late T w (some a) late = passed-out T w (some a) (late a refl)
+  -- it is there, if it is anywhere and its place has passed
+  passed-all : (v ≡ e) ⊎ (w < T) → passed e T w v ≡ v
+  passed-all = ⊎-elim (λ empty. passed-empty empty ∙ sym empty) passed-in
 
--- what is there is the value
-pub passed-some : {A : Type 0} (T w : ℕ) (o : Option A) {a : A} → passed T w o ≡ some a → (w < T) × (o ≡ some a)
-passed-some T w o {a} e = go (ltb w T) refl e
-  where
-    go : (b : Bool) → ltb w T ≡ b → cond b o none ≡ some a → (w < T) × (o ≡ some a)
-    go true at e = (ltb-true w T at, e)
-    go false at e = absurd (none-some refl e)
+  -- it is not there yet, if it is anywhere
+  passed-late : (v ≡ e) ⊎ (T ≤ w) → passed e T w v ≡ e
+  passed-late = ⊎-elim passed-empty passed-out
+
+  -- what is there and is not empty is the value
+  passed-is : {a : A} → (a ≡ e → ⊥) → passed e T w v ≡ a → v ≡ a
+  passed-is {a} full = go (ltb w T)
+    where
+      go : (b : Bool) → cond b v e ≡ a → v ≡ a
+      go true same = same
+      go false same = absurd (full (sym same))
 
 -- nothing comes at place T
-pub passed-still : {A : Type 0} (T w : ℕ) (o : Option A) → ((a : A) → o ≡ some a → w ≡ T → ⊥) → passed T w o ≡ passed (suc T) w o
-passed-still T w none other = passed-none T w ∙ sym (passed-none (suc T) w)
-passed-still T w (some a) other =
-    let apart : w ≡ T → ⊥ = other a refl in
+passed-still : {A : Type 0} (e : A) (T w : ℕ) (v : A) → (v ≡ e) ⊎ (w ≡ T → ⊥) → passed e T w v ≡ passed e (suc T) w v
+passed-still e T w v =
+    ⊎-elim (λ empty. passed-empty e T w v empty ∙ sym (passed-empty e (suc T) w v empty))
+    (λ apart.
     elim (decLe (suc w) T) [
-      | yes in-time ↦ passed-in T w (some a) in-time ∙ sym (passed-in (suc T) w (some a) (omega arith))
-      | no late ↦ passed-out T w (some a) (omega arith) ∙ sym (passed-out (suc T) w (some a) (omega arith))
-    ]
+      | yes in-time ↦ passed-in e T w v in-time ∙ sym (passed-in e (suc T) w v (omega arith))
+      | no late ↦ passed-out e T w v (omega arith) ∙ sym (passed-out e (suc T) w v (omega arith))
+    ])
+
+-- a function changed at n is another that has the new value there and the old ones elsewhere
+put-is : {A : Type 0} (f g : ℕ → A) (n : ℕ) (v : A) → g n ≡ v → ((k : ℕ) → (k ≡ n → ⊥) → f k ≡ g k) → (k : ℕ) → put f n v k ≡ g k
+put-is f g n v here other k =
+    ⊎-elim (λ same. rw (eq-eqb k n same) (sym (ap g same ∙ here))) (λ away. rw (ne-eqb k n away) (other k away)) (equal-or-not k n)
 
 -- at place T comes the value at n, and no other
-pub passed-put : {A : Type 0} (T : ℕ) (w : ℕ → ℕ) (f : ℕ → Option A) (n : ℕ) (v : A) → f n ≡ some v → w n ≡ T
-    → ((k : ℕ) (a : A) → f k ≡ some a → w k ≡ T → k ≡ n) → (k : ℕ)
-    → put (λ i. passed T (w i) (f i)) n (some v) k ≡ passed (suc T) (w k) (f k)
-passed-put {A} T w f n v here at only k =
-    ⊎-elim
-    (λ same.
-    subst (λ (i : ℕ). put (λ j. passed T (w j) (f j)) n (some v) i ≡ passed (suc T) (w i) (f i)) (sym same)
-    (put-same (λ j. passed T (w j) (f j)) n (some v) ∙ sym here ∙ sym (passed-in (suc T) (w n) (f n) (omega arith))))
-    (λ other.
-    put-other (λ j. passed T (w j) (f j)) n (some v) k other ∙ passed-still T (w k) (f k) (λ a e now. other (only k a e now)))
-    (equal-or-not k n)
+passed-put : {A : Type 0} (e : A) (T : ℕ) (w : ℕ → ℕ) (f : ℕ → A) (n : ℕ) (v : A) → f n ≡ v → w n ≡ T
+    → ((k : ℕ) → (f k ≡ e) ⊎ (w k ≡ T → k ≡ n)) → (k : ℕ) → put (λ i. passed e T (w i) (f i)) n v k ≡ passed e (suc T) (w k) (f k)
+passed-put e T w f n v here at only =
+    put-is (λ i. passed e T (w i) (f i)) (λ i. passed e (suc T) (w i) (f i)) n v (passed-in e (suc T) (w n) (f n) (omega arith) ∙ here)
+    (λ k other. passed-still e T (w k) (f k) (⊎-elim inl (λ alone. inr (λ now. other (alone now))) (only k)))
 
 -- before place T comes the value at n, and no other
-pub put-first : {A : Type 0} (T : ℕ) (w : ℕ → ℕ) (f : ℕ → Option A) (n : ℕ) (v : A) → f n ≡ some v → w n < T
-    → ((k : ℕ) (a : A) → f k ≡ some a → (k ≡ n → ⊥) → T ≤ w k) → (k : ℕ) → put (λ i. none) n (some v) k ≡ passed T (w k) (f k)
-put-first T w f n v here early late k =
-    ⊎-elim
-    (λ same.
-    subst (λ (i : ℕ). put (λ j. none) n (some v) i ≡ passed T (w i) (f i)) (sym same)
-    (put-same (λ j. none) n (some v) ∙ sym here ∙ sym (passed-in T (w n) (f n) early)))
-    (λ other. put-other (λ j. none) n (some v) k other ∙ sym (passed-late T (w k) (f k) (λ a e. late k a e other)))
-    (equal-or-not k n)
+put-first : {A : Type 0} (e : A) (T : ℕ) (w : ℕ → ℕ) (f : ℕ → A) (n : ℕ) (v : A) → f n ≡ v → w n < T
+    → ((k : ℕ) → (k ≡ n → ⊥) → (f k ≡ e) ⊎ (T ≤ w k)) → (k : ℕ) → put (λ i. e) n v k ≡ passed e T (w k) (f k)
+put-first e T w f n v here early late =
+    put-is (λ i. e) (λ i. passed e T (w i) (f i)) n v (passed-in e T (w n) (f n) early ∙ here)
+    (λ k other. sym (passed-late e T (w k) (f k) (late k other)))
 
 -- ---- the tree before a place
 
@@ -105,31 +103,41 @@ unfoldable pub grown : Tree → ℕ → Tree
 grown t T =
     record {
       root = t .root;
-      owner = λ n. passed T (nodePlace t n) (t .owner n);
-      below = λ n. passed T (refinePlace t n) (t .below n);
-      start = λ m. passed T (machinePlace t m) (t .start m);
-      holder = λ m. passed T (machinePlace t m) (t .holder m);
-      transition = λ n x. passed T (arrowAt n x) (t .transition n x);
+      owner = λ n. passed none T (nodePlace t n) (t .owner n);
+      below = λ n. passed none T (refinePlace t n) (t .below n);
+      start = λ m. passed none T (machinePlace t m) (t .start m);
+      holder = λ m. passed none T (machinePlace t m) (t .holder m);
+      transition = λ n x. passed none T (arrowAt n x) (t .transition n x);
     }
 
--- nothing stands at a place: the tree stays
-pub grown-still : {t : Tree} → Sound t → (T : ℕ) → ((n m : ℕ) → t .owner n ≡ some m → nodePlace t n ≡ T → ⊥)
+-- no refinement and no machine comes at a place: the tree stays, but for the nodes and the transitions that come
+grown-next : {t : Tree} → Sound t → (T : ℕ) → ((n b : ℕ) → t .below n ≡ some b → refinePlace t n ≡ T → ⊥)
+    → ((m f : ℕ) → t .start m ≡ some f → machinePlace t m ≡ T → ⊥) → {owner : ℕ → Option ℕ} {transition : ℕ → ℕ → Option Transition}
+    → ((n : ℕ) → owner n ≡ grown t (suc T) .owner n) → ((n x : ℕ) → transition n x ≡ grown t (suc T) .transition n x)
+    → withNodes (grown t T) owner (grown t T .below) transition ≡ grown t (suc T)
+unfolding grown
+grown-next {t} s T refined machine owner transition =
+    same-tree _ _ refl owner (λ n. passed-still none T (refinePlace t n) (t .below n) (given (refined n)))
+    (λ m. passed-still none T (machinePlace t m) (t .start m) (given (machine m)))
+    (λ m. passed-still none T (machinePlace t m) (t .holder m) (given λ h e. let (f, used) = s .held-used m h e in machine m f used))
+    transition
+
+-- nothing comes at a place: the tree stays
+grown-still : {t : Tree} → Sound t → (T : ℕ) → ((n m : ℕ) → t .owner n ≡ some m → nodePlace t n ≡ T → ⊥)
     → ((n b : ℕ) → t .below n ≡ some b → refinePlace t n ≡ T → ⊥) → ((m f : ℕ) → t .start m ≡ some f → machinePlace t m ≡ T → ⊥)
     → ((n x : ℕ) (a : Transition) → t .transition n x ≡ some a → arrowAt n x ≡ T → ⊥) → grown t T ≡ grown t (suc T)
 unfolding grown
 grown-still {t} s T node refined machine drawn =
-    same-tree (grown t T) (grown t (suc T)) refl (λ n. passed-still T (nodePlace t n) (t .owner n) (node n))
-    (λ n. passed-still T (refinePlace t n) (t .below n) (refined n)) (λ m. passed-still T (machinePlace t m) (t .start m) (machine m))
-    (λ m. passed-still T (machinePlace t m) (t .holder m) (λ h e. let (f, used) = s .held-used m h e in machine m f used))
-    (λ n x. passed-still T (arrowAt n x) (t .transition n x) (drawn n x))
+    grown-next s T refined machine (λ n. passed-still none T (nodePlace t n) (t .owner n) (given (node n)))
+    (λ n x. passed-still none T (arrowAt n x) (t .transition n x) (given (drawn n x)))
 
 -- what is in use is in use in the whole tree, and what it stands below, it stands below there
 pub grown-above : (t : Tree) (T n h : ℕ) → above (grown t T) n ≡ some h → above t n ≡ some h
 unfolding grown above
 grown-above t T n h e =
     let (m, own, held) = bind-some (grown t T .owner n) (grown t T .holder) e in
-    let whole-own : t .owner n ≡ some m = passed-some T (nodePlace t n) (t .owner n) own .1 in
-    rw whole-own (passed-some T (machinePlace t m) (t .holder m) held .1)
+    let whole-own : t .owner n ≡ some m = passed-is none T (nodePlace t n) (t .owner n) (λ e. none-some e refl) own in
+    rw whole-own (passed-is none T (machinePlace t m) (t .holder m) (λ e. none-some e refl) held)
 
 -- ---- the first place and the last
 
@@ -139,29 +147,30 @@ unfolding grown single
 grown-begin {t} s f first =
     let own : t .owner f ≡ some (t .root) = s .start-owned (t .root) f first in
     let root : machinePlace t (t .root) ≡ 0 = place-free t (s .root-free) in
-    same-tree (single (t .root) f) (grown t afterBegin) refl
-    (put-first afterBegin (nodePlace t) (t .owner) f (t .root) own (omega (arith, place-start t own first))
-    (λ n m e other. node-late s e (λ at. other (some-same at first))))
-    (λ n. sym (passed-late afterBegin (refinePlace t n) (t .below n) (λ b e. refine-late s e)))
-    (put-first afterBegin (machinePlace t) (t .start) (t .root) f first (omega arith) (λ m k e other. machine-late s e other))
+    same-tree _ _ refl
+    (put-first none afterBegin (nodePlace t) (t .owner) f (some (t .root)) own (omega (arith, place-start t own first))
+    (λ n other. given λ m e. node-late s e (λ at. other (some-same at first))))
+    (λ n. sym (passed-late none afterBegin (refinePlace t n) (t .below n) (given λ b e. refine-late s e)))
+    (put-first none afterBegin (machinePlace t) (t .start) (t .root) (some f) first (omega arith)
+    (λ m other. given λ k e. machine-late s e other))
     (λ m.
     sym
-    (passed-late afterBegin (machinePlace t m) (t .holder m)
-    (λ h e. machine-late s (s .held-used m h e .1) (λ same. root-holder s same e))))
-    (λ n x. sym (passed-late afterBegin (arrowAt n x) (t .transition n x) (λ a e. omega arith)))
+    (passed-late none afterBegin (machinePlace t m) (t .holder m)
+    (given λ h e. machine-late s (s .held-used m h e .1) (λ same. root-holder s same e))))
+    (λ n x. sym (passed-late none afterBegin (arrowAt n x) (t .transition n x) (inr (omega arith))))
 
 -- after the last place there is the whole tree
 pub grown-end : {t : Tree} → Sound t → grown t afterAll ≡ t
 unfolding grown
 grown-end {t} s =
-    same-tree (grown t afterAll) t refl
-    (λ n. passed-all afterAll (nodePlace t n) (t .owner n) (λ m e. omega (arith, node-all s e)))
-    (λ n. passed-all afterAll (refinePlace t n) (t .below n) (λ b e. omega (arith, refine-all s e)))
-    (λ m. passed-all afterAll (machinePlace t m) (t .start m) (λ f e. omega (arith, machine-all s e)))
-    (λ m. passed-all afterAll (machinePlace t m) (t .holder m) (λ h e. omega (arith, machine-all s (s .held-used m h e .1))))
+    same-tree _ _ refl
+    (λ n. passed-all none afterAll (nodePlace t n) (t .owner n) (given λ m e. omega (arith, node-all s e)))
+    (λ n. passed-all none afterAll (refinePlace t n) (t .below n) (given λ b e. omega (arith, refine-all s e)))
+    (λ m. passed-all none afterAll (machinePlace t m) (t .start m) (given λ f e. omega (arith, machine-all s e)))
+    (λ m. passed-all none afterAll (machinePlace t m) (t .holder m) (given λ h e. omega (arith, machine-all s (s .held-used m h e .1))))
     (λ n x.
-    passed-all afterAll (arrowAt n x) (t .transition n x)
-    (λ a e. omega (arith, target-range t s n x a e, s .transition-range n x a e)))
+    passed-all none afterAll (arrowAt n x) (t .transition n x)
+    (given λ a e. omega (arith, target-range t s n x a e, s .transition-range n x a e)))
 
 -- ---- the adds
 
@@ -201,20 +210,18 @@ module _ {t : Tree} (s : Sound t) (l i : ℕ) (high : l < levels) (small : i < n
         record {
           machine-range = owner-range t s i m own .1;
           node-range = small;
-          machine-used = (f, passed-in (addAt (suc l) i) (machinePlace t m) (t .start m) (omega arith) ∙ used);
-          node-new = passed-out (addAt (suc l) i) (nodePlace t i) (t .owner i) (omega (arith, add-here));
+          machine-used = (f, passed-in none (addAt (suc l) i) (machinePlace t m) (t .start m) (omega arith) ∙ used);
+          node-new = passed-out none (addAt (suc l) i) (nodePlace t i) (t .owner i) (omega (arith, add-here));
         }
 
     -- and what it leaves
     pub add-done : edited (grown t (addAt (suc l) i)) (add m i) ≡ grown t (suc (addAt (suc l) i))
     unfolding grown edited
     add-done =
-        same-tree (edited (grown t (addAt (suc l) i)) (add m i)) (grown t (suc (addAt (suc l) i))) refl
-        (passed-put (addAt (suc l) i) (nodePlace t) (t .owner) i m own add-here (λ k a e here. node-at-add s l i small e here .1))
-        (λ n. passed-still (addAt (suc l) i) (refinePlace t n) (t .below n) (refine-not n))
-        (λ p. passed-still (addAt (suc l) i) (machinePlace t p) (t .start p) (λ f e. machine-not p))
-        (λ p. passed-still (addAt (suc l) i) (machinePlace t p) (t .holder p) (λ f e. machine-not p))
-        (λ n x. passed-still (addAt (suc l) i) (arrowAt n x) (t .transition n x) (λ a e. arrow-not n x))
+        grown-next s (addAt (suc l) i) refine-not (λ p f used. machine-not p)
+        (passed-put none (addAt (suc l) i) (nodePlace t) (t .owner) i (some m) own add-here
+        (λ k. given λ a e here. node-at-add s l i small e here .1))
+        (λ n x. passed-still none (addAt (suc l) i) (arrowAt n x) (t .transition n x) (inr (arrow-not n x)))
 
 -- ---- the refines
 
@@ -265,10 +272,10 @@ module _ {t : Tree} (s : Sound t) (l i : ℕ) (high : l < levels) (small : i < n
           node-range = small;
           machine-range = start-range t s b f first .0;
           first-range = start-range t s b f first .1;
-          node-used = (m, passed-in (refineAt (suc l) i) (nodePlace t i) (t .owner i) (omega arith) ∙ own);
-          machine-new = passed-out (refineAt (suc l) i) (machinePlace t b) (t .start b) (omega (arith, machine-here));
-          first-new = passed-out (refineAt (suc l) i) (nodePlace t f) (t .owner f) (omega (arith, start-here));
-          node-plain = passed-out (refineAt (suc l) i) (refinePlace t i) (t .below i) (omega (arith, refine-here));
+          node-used = (m, passed-in none (refineAt (suc l) i) (nodePlace t i) (t .owner i) (omega arith) ∙ own);
+          machine-new = passed-out none (refineAt (suc l) i) (machinePlace t b) (t .start b) (omega (arith, machine-here));
+          first-new = passed-out none (refineAt (suc l) i) (nodePlace t f) (t .owner f) (omega (arith, start-here));
+          node-plain = passed-out none (refineAt (suc l) i) (refinePlace t i) (t .below i) (omega (arith, refine-here));
           not-lowest = λ lowest.
               omega (arith, level-refined s own holds, level-less (grown t (refineAt (suc l) i)) t (grown-above t (refineAt (suc l) i)) i);
         }
@@ -277,19 +284,20 @@ module _ {t : Tree} (s : Sound t) (l i : ℕ) (high : l < levels) (small : i < n
     pub refine-done : edited (grown t (refineAt (suc l) i)) (refine i b f) ≡ grown t (suc (refineAt (suc l) i))
     unfolding grown edited
     refine-done =
-        same-tree (edited (grown t (refineAt (suc l) i)) (refine i b f)) (grown t (suc (refineAt (suc l) i))) refl
-        (passed-put (refineAt (suc l) i) (nodePlace t) (t .owner) f b (s .start-owned b f first) start-here
-        (λ k m own here.
+        same-tree _ _ refl
+        (passed-put none (refineAt (suc l) i) (nodePlace t) (t .owner) f (some b) (s .start-owned b f first) start-here
+        (λ k.
+        given λ m own here.
         let (start, held, level-i) = node-at-refine s l i small own here in
         let same : m ≡ b = only-held held in
         some-same (rw same at start) first))
-        (passed-put (refineAt (suc l) i) (refinePlace t) (t .below) i b holds refine-here
-        (λ k a e here. refine-at-refine s l i small e here .0))
-        (passed-put (refineAt (suc l) i) (machinePlace t) (t .start) b f first machine-here
-        (λ k a e here. only-held (machine-at-refine s l i small here .0)))
-        (passed-put (refineAt (suc l) i) (machinePlace t) (t .holder) b i (s .below-held i b holds) machine-here
-        (λ k a e here. only-held (machine-at-refine s l i small here .0)))
-        (λ n x. passed-still (refineAt (suc l) i) (arrowAt n x) (t .transition n x) (λ a e. no-arrow n x))
+        (passed-put none (refineAt (suc l) i) (refinePlace t) (t .below) i (some b) holds refine-here
+        (λ k. given λ a e here. refine-at-refine s l i small e here .0))
+        (passed-put none (refineAt (suc l) i) (machinePlace t) (t .start) b (some f) first machine-here
+        (λ k. inr (λ here. only-held (machine-at-refine s l i small here .0))))
+        (passed-put none (refineAt (suc l) i) (machinePlace t) (t .holder) b (some i) (s .below-held i b holds) machine-here
+        (λ k. inr (λ here. only-held (machine-at-refine s l i small here .0))))
+        (λ n x. passed-still none (refineAt (suc l) i) (arrowAt n x) (t .transition n x) (inr (no-arrow n x)))
 
 -- ---- the arrows
 
@@ -324,8 +332,8 @@ module _ {t : Tree} (s : Sound t) (n x : ℕ) (small : n < nodes) (known : x < c
           target-range = target-range t s n x a drawn .1;
           one-machine = (
             m,
-            passed-in (arrowAt n x) (nodePlace t n) (t .owner n) (omega (arith, node-all s own)) ∙ own,
-            passed-in (arrowAt n x) (nodePlace t (a .target)) (t .owner (a .target)) (omega (arith, node-all s there)) ∙ there,
+            passed-in none (arrowAt n x) (nodePlace t n) (t .owner n) (omega (arith, node-all s own)) ∙ own,
+            passed-in none (arrowAt n x) (nodePlace t (a .target)) (t .owner (a .target)) (omega (arith, node-all s there)) ∙ there,
           );
         }
 
@@ -335,25 +343,20 @@ module _ {t : Tree} (s : Sound t) (n x : ℕ) (small : n < nodes) (known : x < c
     unfolding grown withTransition
     arrow-put k y =
         let old : ℕ → ℕ → Option Transition = grown t (arrowAt n x) .transition in
-        let new : ℕ → Option Transition = put (old n) x (some a) in
-        ⊎-elim
-        (λ same.
-        subst (λ (i : ℕ). put old n new i y ≡ grown t (suc (arrowAt n x)) .transition i y) (sym same)
-        (ap (λ (g : ℕ → Option Transition). g y) (put-same old n new)
-        ∙ passed-put (arrowAt n x) (arrowAt n) (t .transition n) x a drawn refl
-        (λ j b e here. arrow-at-arrow n x n j known (s .transition-range n j b e .0) here .1) y))
-        (λ other.
-        ap (λ (g : ℕ → Option Transition). g y) (put-other old n new k other)
-        ∙ passed-still (arrowAt n x) (arrowAt k y) (t .transition k y)
-        (λ b e here. other (arrow-at-arrow n x k y known (s .transition-range k y b e .0) here .0))) (equal-or-not k n)
+        ap (λ (row : ℕ → Option Transition). row y)
+        (put-is old (grown t (suc (arrowAt n x)) .transition) n (put (old n) x (some a))
+        (fun-ext λ j.
+        sym
+        (passed-put none (arrowAt n x) (arrowAt n) (t .transition n) x (some a) drawn refl
+        (λ j. given λ b e here. arrow-at-arrow n x n j known (s .transition-range n j b e .0) here .1) j))
+        (λ i other.
+        fun-ext λ j.
+        passed-still none (arrowAt n x) (arrowAt i j) (t .transition i j)
+        (given λ b e here. other (arrow-at-arrow n x i j known (s .transition-range i j b e .0) here .0))) k)
 
     -- and what it leaves
     pub arrow-done : edited (grown t (arrowAt n x)) (arrow n x (a .target) (a .cost)) ≡ grown t (suc (arrowAt n x))
     unfolding grown edited withTransition
     arrow-done =
-        same-tree (edited (grown t (arrowAt n x)) (arrow n x (a .target) (a .cost))) (grown t (suc (arrowAt n x))) refl
-        (λ k. passed-still (arrowAt n x) (nodePlace t k) (t .owner k) (node-past k))
-        (λ k. passed-still (arrowAt n x) (refinePlace t k) (t .below k) (refine-past k))
-        (λ m. passed-still (arrowAt n x) (machinePlace t m) (t .start m) (machine-past m))
-        (λ m. passed-still (arrowAt n x) (machinePlace t m) (t .holder m) (λ h e. machine-past m _ (s .held-used m h e .1)))
-        arrow-put
+        grown-next s (arrowAt n x) refine-past machine-past
+        (λ k. passed-still none (arrowAt n x) (nodePlace t k) (t .owner k) (given (node-past k))) arrow-put

@@ -1,8 +1,8 @@
 -- `book::clear_machine` meets its contract: its two stores. Assumes nothing.
 use mathlib.Core.Option.{none}
 use borrow.Author.Needs.{needs}
+use Rattle.definitions.specs.Tree.{withStartOf}
 use Rattle.definitions.specs.Book.{number}
-use Rattle.book.specs.Fields.{withStartOf}
 use Rattle.book.proofs.Stores.{holds-then}
 use Rattle.book.proofs.clear_machine.Statement.{statement}
 use Rattle.book.proofs.clear_machine.Tie as tie

@@ -1,7 +1,8 @@
 -- `book::clear_node` meets its contract: two stores, and its transitions cleared. Assumes nothing.
 use mathlib.Core.Option.{none}
+use Rattle.definitions.specs.Tree.{withBelow}
 use Rattle.definitions.specs.Book.{number}
-use Rattle.book.specs.Fields.{withBelow, withoutTransitions}
+use Rattle.book.specs.Fields.{withoutTransitions}
 use Rattle.book.proofs.Stores.{holds-then}
 use borrow.Author.Needs.{needs}
 use Rattle.book.proofs.clear_node.Statement.{statement}
