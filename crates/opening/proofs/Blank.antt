@@ -12,13 +12,13 @@ use lib.ListN.{length}
 use borrow.Author.Tests.{le-ltb}
 use Rattle.definitions.specs.Basics.{put, isSome}
 use Rattle.definitions.specs.Limits.{machines, nodes, commands, sheetLength, absent}
-use Rattle.definitions.specs.Tree.{Tree, Transition, usedMachine}
+use Rattle.definitions.specs.Tree.{Tree, Transition, usedMachine, withRoot}
 use Rattle.definitions.specs.Book.{number, under, treeOf, machineWord, nodeWord, transitionOf}
 use Rattle.definitions.specs.Sheet.{Rows, rowsOf, encodeRows, machineRowWord, nodeRowWord, costOf}
 use Rattle.definitions.specs.Open.{lastUnder, rowOwner, rowBelow, nextLower, neighbour, linked, grown, openRows}
 use Rattle.definitions.proofs.Options.{equal-or-not, put-same, put-other}
 use Rattle.definitions.proofs.Words.{same-tree, same-rows, marks-words}
-use Rattle.book.specs.Fields.{withRoot, withoutMachine, withoutNode}
+use Rattle.book.specs.Fields.{withoutMachine, withoutNode}
 use Rattle.sheet.specs.Fields.{Marks, withMark, withBlankMachine, withBlankNode}
 use Rattle.opening.proofs.Growth.{under-out, under-none}
 

@@ -11,13 +11,13 @@ use lib.Dec.{eqb, ltb}
 use borrow.Author.Tests.{ltb-true, ltb-false, lt-ltb, le-ltb, eq-eqb, ne-eqb}
 use Rattle.definitions.specs.Basics.{isAt, put}
 use Rattle.definitions.specs.Limits.{machines, nodes, absent}
-use Rattle.definitions.specs.Tree.{Tree, Transition}
+use Rattle.definitions.specs.Tree.{Tree, Transition, withOwner, withBelow}
 use Rattle.definitions.specs.Book.{word, number, under, treeOf}
 use Rattle.definitions.specs.Edit.{withTransition}
 use Rattle.definitions.specs.Open.{lastUnder, cell, rowOwner, rowBelow, rowStart, nextLower, neighbour, linked, grown}
 use Rattle.definitions.proofs.Options.{equal-or-not, put-same, put-other, bind-some, isAt-some, isAt-other}
 use Rattle.definitions.proofs.Words.{under-in}
-use Rattle.book.specs.Fields.{Holds, withOwner, withBelow}
+use Rattle.book.specs.Fields.{Holds}
 use Rattle.book.proofs.Stores.{holds-then}
 use Rattle.opening.specs.Writes.{withHeld, withStarted, withLinks}
 use Rattle.opening.proofs.Last.{last-pass, last-skip, last-under}

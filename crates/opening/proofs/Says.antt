@@ -5,13 +5,13 @@ use mathlib.Core.List.{List}
 use Prim.Native.Nat.{ℕ}
 use lib.ListN.{length}
 use Rattle.definitions.specs.Limits.{bookLength, sheetLength, absent}
-use Rattle.definitions.specs.Tree.{Tree}
+use Rattle.definitions.specs.Tree.{Tree, withRoot}
 use Rattle.definitions.specs.Book.{encode, treeOf}
 use Rattle.definitions.specs.Sheet.{encodeRows}
 use Rattle.definitions.specs.Open.{rowCount, grown, rootOf, rowTree, openRows}
 use Rattle.definitions.specs.Calls.{RightLengths, OpenSays}
 use Rattle.definitions.proofs.Words.{encode-treeOf}
-use Rattle.book.specs.Fields.{Holds, withRoot}
+use Rattle.book.specs.Fields.{Holds}
 
 -- a book with all rows, in which the root that it asks for is written, holds the table's tree
 pub book-rooted : (rows : List ℕ) {ws after : List ℕ} (r : ℕ) → Holds ws (grown rows (rowCount rows) absent) → r ≡ rootOf (treeOf ws)

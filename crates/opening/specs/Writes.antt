@@ -4,9 +4,8 @@ use mathlib.Core.Option.{some}
 use Prim.Native.Nat.{ℕ}
 use lib.Dec.{eqb, ltb}
 use Rattle.definitions.specs.Limits.{machines, nodes}
-use Rattle.definitions.specs.Tree.{Tree}
+use Rattle.definitions.specs.Tree.{Tree, withHolder, withStartOf}
 use Rattle.definitions.specs.Edit.{withTransition}
-use Rattle.book.specs.Fields.{withHolder, withStartOf}
 use Rattle.definitions.specs.Open.{neighbour}
 
 -- node n as the holder of the machine below it, where that is one
