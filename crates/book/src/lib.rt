@@ -2,7 +2,7 @@
 // numbers are in range; what a word says is then what the book's tree says, and a store changes one field of that tree.
 ghost use mathlib.Core.Path.{_≡_};
 ghost use Prim.Native.Nat.{_<_};
-ghost use lib.ListN.{length};
+ghost use lib.ListN.{length, getD};
 ghost use Rattle.definitions.specs.Limits.{machines, nodes, commands, bookLength};
 ghost use Rattle.definitions.specs.Tree.{withRoot, withHolder, withStartOf, withOwner, withBelow};
 ghost use Rattle.definitions.specs.Book.{word, transitionWord, machineFields, nodeFields, machineField, nodeField, treeOf};
@@ -22,10 +22,28 @@ pub const NODES: u32 = 256;
 
 pub const COMMANDS: u32 = 16;
 
+// How many levels there are: the root is at level 1.
+pub const LEVELS: u32 = 8;
+
 // The word for a number that is not there, and the one for a transition or a cost that is not there.
 pub const ABSENT: u32 = 65535;
 
 pub const BLANK: u32 = 4294967295;
+
+// The number in 64 bits, in which costs are added.
+pub fn wide(x: u32) -> u64
+    ensures { λ r. ⌜ (r ≡ x) × (r < 4294967296) ⌝ }
+{
+    x as u64
+}
+
+// The number at place i of a list.
+pub fn word(list: &[u32], i: u32) -> u32
+    requires { ⌜ i < length (now list) ⌝ }
+    ensures { λ r. ⌜ r ≡ getD (now (list .entry)) i 0 ⌝ }
+{
+    list[i as usize]
+}
 
 // The word at place k of machine m's record.
 pub fn machine_word(book: &[u32], m: u32, k: u32) -> u32

@@ -38,13 +38,6 @@ fn limit(n: usize) -> usize
     if n < 65536 { n } else { 65536 }
 }
 
-// The number in 64 bits.
-fn wide(x: u32) -> u64
-    ensures { λ r. ⌜ r ≡ x ⌝ }
-{
-    x as u64
-}
-
 // The used part of a list from state a up to its first arrival at b.
 pub fn used_part(book: &[u32], a: u32, b: u32, list: &[u8]) -> Part
     requires { ⌜ WellFormed (now book) × UsedNode (treeOf (now book)) a ⌝ }
@@ -70,7 +63,7 @@ pub fn used_part(book: &[u32], a: u32, b: u32, list: &[u8]) -> Part
             return Part::Ends; // a stop
         };
         s = next;
-        cost += wide(c);
+        cost += book::wide(c);
         i += 1;
     }
     Part::Arrives { count: i, cost }

@@ -17,7 +17,7 @@ use Rattle.plantheory.specs.Search.{openedFor}
 use Rattle.book.proofs.Chosen.{zeros-at, chosen-more}
 use Rattle.stepping.proofs.Laws.{used-range}
 use Rattle.stepping.proofs.Upward.{own, top, held, used-holder}
-use Rattle.crossing.specs.Parts.{isOpen, Opens, OpenedFor, inOpened}
+use Rattle.crossing.specs.Parts.{isOpen, MachinesOpened, OpenedFor, inOpened}
 
 -- ---- one machine more
 
@@ -66,7 +66,7 @@ module _ (book : List ℕ) (w : WellFormed book) {old new : List ℕ} {s n : ℕ
 
     module _ {h : ℕ} (holder : h ≡ word (treeOf book .holder o)) where
       -- no node holds it
-      pub walk-ends : h ≡ absent → Opens (treeOf book) s old (set new o 1)
+      pub walk-ends : h ≡ absent → MachinesOpened (treeOf book) s old (set new o 1)
       walk-ends free =
           record {
             says = λ m.
@@ -97,8 +97,8 @@ unfolding isOpen
 closed k m = rw (zeros-at k m)
 
 -- after two walks from such a list the machines above a or b are opened
-pub opened-both : {t : Tree} {a b : ℕ} {none-open first both : List ℕ} → ((m : ℕ) → isOpen none-open m ≡ false) → Opens t a none-open first
-    → Opens t b first both → OpenedFor t a b both
+pub opened-both : {t : Tree} {a b : ℕ} {none-open first both : List ℕ} → ((m : ℕ) → isOpen none-open m ≡ false) → MachinesOpened t a none-open first
+    → MachinesOpened t b first both → OpenedFor t a b both
 unfolding openedFor
 opened-both {t} {a} {b} none-yet one two =
     fun-ext λ m.

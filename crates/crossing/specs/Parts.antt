@@ -24,7 +24,7 @@ unfoldable pub isOpen : List ℕ → ℕ → Bool
 isOpen words m = chosen words m
 
 -- the machine of node s and all above it are opened, and the others are as they were
-pub record Opens (t : Tree) (s : ℕ) (old new : List ℕ) : Type 0 where
+pub record MachinesOpened (t : Tree) (s : ℕ) (old new : List ℕ) : Type 0 where
   pub says : (m : ℕ) → isOpen new m ≡ (over t m s || isOpen old m)
 
 -- the machines above a and b are opened, and no others

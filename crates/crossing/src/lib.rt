@@ -15,11 +15,11 @@ ghost use Rattle.search.specs.Search.{entryMove};
 ghost use Rattle.search.specs.Tables.{TableRoom, FoundRoom, BlankRow, EntryFilled, RowFilled, Tabled};
 ghost use Rattle.sheet.specs.Exits.{Readable, exitOf, Exits};
 ghost use Rattle.crossing.specs.Crossing.{Crossable, Crossed};
-ghost use Rattle.crossing.specs.Parts.{isOpen, Opens, inOpened, OpenedFor, NodeList, Itself, LandedAbove, Landings};
+ghost use Rattle.crossing.specs.Parts.{isOpen, MachinesOpened, inOpened, OpenedFor, NodeList, Itself, LandedAbove, Landings};
 ghost use Rattle.crossing.specs.Parts.{finds, leaves, landMove, UpRoom, OwnerRow, MachineRow, RootRow, HandedTo, HandedAbove, Prepared};
 ghost use Rattle.crossing.specs.Parts.{InNodes, openMove};
 use sheet::OwnExit;
-use sheet::wide;
+use book::wide;
 
 // A move: the node where it leads, ABSENT where there is none, and what it costs.
 struct Move {
@@ -27,10 +27,10 @@ struct Move {
     price: u64,
 }
 
-// Opens the machine of node s and all above it: their words become 1, the others stay.
+// MachinesOpened the machine of node s and all above it: their words become 1, the others stay.
 fn open_above(book: &[u32], s: u32, opened: &mut [u32])
     requires { ⌜ WellFormed (now book) × UsedNode (treeOf (now book)) s × (length (now opened) ≡ machines) ⌝ }
-    ensures { λ _. ⌜ Opens (treeOf (now (book .entry))) s (now (opened .entry)) (now (opened .exit)) ⌝ }
+    ensures { λ _. ⌜ MachinesOpened (treeOf (now (book .entry))) s (now (opened .entry)) (now (opened .exit)) ⌝ }
 {
     let mut n = s;
     loop {
@@ -309,7 +309,7 @@ pub fn cross(
     ensures { λ _. ⌜ Crossed (treeOf (now (book .entry))) (rowsOf (now (sheet .entry))) a b
         (now (dist .exit)) (now (before .exit)) (now (by .exit)) ⌝ }
 {
-    let mut target = [search::ABSENT; 4096];
+    let mut target = [book::ABSENT; 4096];
     let mut price = [0u64; 4096];
     tables(book, sheet, a, b, &mut target, &mut price);
     search::search(

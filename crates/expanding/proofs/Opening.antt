@@ -14,7 +14,7 @@ use Rattle.definitions.proofs.Words.{present-word, absent-word, below-range}
 use Rattle.plantheory.specs.Expand.{chainPart, pathBy, nodePart}
 use Rattle.plantheory.proofs.Expanded.{path-last, part-refined}
 use Rattle.expanding.specs.Names.{Traceable}
-use Rattle.expanding.specs.Expanding.{Fresh, leavePart, stepsPart, Steps, Traced, Opens}
+use Rattle.expanding.specs.Expanding.{Fresh, leavePart, stepsPart, Steps, Traced, NodeOpens}
 use Rattle.expanding.proofs.Traceable.{row-traceable}
 use Rattle.expanding.proofs.Tracing.{steps-stored}
 
@@ -36,12 +36,12 @@ part-none (suc d) t r n x {m} bel last = part-refined d t r n x bel ∙ path-non
 
 module _ {t : Tree} {r : Rows} {n x : ℕ} where
   -- a node without a part opens into no steps
-  pub opens-none : {left given : List ℕ} → Steps left given 0 → ((d : ℕ) → nodePart d t r n x ≡ []) → Opens t r n x 0 left given
+  pub opens-none : {left given : List ℕ} → Steps left given 0 → ((d : ℕ) → nodePart d t r n x ≡ []) → NodeOpens t r n x 0 left given
   opens-none st none-there = record { steps = st; shut = λ e. none-there; path = λ other. absurd (other refl) }
 
   -- the steps that lead to the last node, and the one that leaves it, are those of the path
   pub opens-path : (left given : List ℕ) {m u k : ℕ} {left′ given′ : List ℕ} → t .below n ≡ some m → r .last m x ≡ some u → 0 < length left → 0 < length given
-      → Traced (r .before) (r .by) u 1 (set left 0 u) (set given 0 x) k left′ given′ → Opens t r n x k left′ given′
+      → Traced (r .before) (r .by) u 1 (set left 0 u) (set given 0 x) k left′ given′ → NodeOpens t r n x k left′ given′
   unfolding stepsPart
   opens-path left given {m} {u} {k} {left′} {given′} bel last fits also traced =
       record {
@@ -58,7 +58,7 @@ module _ {t : Tree} {r : Rows} {n x : ℕ} where
       }
 
 -- the path of an opened node, going one machine less down, is what leaves the node
-pub opens-on : {t : Tree} {r : Rows} {n x k : ℕ} {left given : List ℕ} → Opens t r n x k left given → (k ≡ 0 → ⊥) → (d : ℕ) → (d ≡ 0 → ⊥)
+pub opens-on : {t : Tree} {r : Rows} {n x k : ℕ} {left given : List ℕ} → NodeOpens t r n x k left given → (k ≡ 0 → ⊥) → (d : ℕ) → (d ≡ 0 → ⊥)
     → stepsPart (nodePart (d - 1) t r) left given k ≡ leavePart (nodePart d t r) n x
 opens-on opens there zero some-level = absurd (some-level refl)
 opens-on opens there (suc d) some-level = rw (sub-one (suc d)) (opens .path there d)

@@ -5,7 +5,7 @@ use Prim.Native.Nat.{ℕ, suc, _+_, _≤_, _<_}
 use native.Mathlib.Omega.{arith}
 use lib.ListN.{length, drop, set, length-append}
 use lib.Seq.{sets, length-sets, sets-eq}
-use Rattle.expanding.specs.Expanding.{leavePart, Written}
+use Rattle.expanding.specs.Expanding.{leavePart, CommandsWritten}
 
 -- two lists in a row are written as one after the other
 sets-append : (a b l : List ℕ) (i : ℕ) → sets l i (a ++ b) ≡ sets (sets l i a) (i + length a) b
@@ -32,7 +32,7 @@ module _ {first : List ℕ} {at : ℕ} {whole : List ℕ} where
 
   -- it is written
   pub onward-more : {now now′ rest : List ℕ} {next next′ : ℕ} (part : List ℕ) → Onward first at whole now next (part ++ rest)
-      → Written now now′ next next′ part → Onward first at whole now′ next′ rest
+      → CommandsWritten now now′ next next′ part → Onward first at whole now′ next′ rest
   onward-more {now} {now′} {rest} {next} {next′} part on w =
       record {
         room = omega (arith, on .room, w .next-place, length-append part rest);
@@ -41,11 +41,11 @@ module _ {first : List ℕ} {at : ℕ} {whole : List ℕ} where
       }
 
   -- nothing is left
-  pub onward-done : {now : List ℕ} {next : ℕ} → Onward first at whole now next [] → Written first now at next whole
+  pub onward-done : {now : List ℕ} {next : ℕ} → Onward first at whole now next [] → CommandsWritten first now at next whole
   onward-done on = record { next-place = omega (arith, on .room); bytes = on .bytes }
 
 -- what is written from the front on stands before the bytes that it leaves
-pub written-front : {first now list : List ℕ} {next : ℕ} → Written first now 0 next list → length list ≤ length first
+pub written-front : {first now list : List ℕ} {next : ℕ} → CommandsWritten first now 0 next list → length list ≤ length first
     → (next ≡ length list) × (now ≡ list ++ drop (length list) first)
 written-front {first} {now} {list} w room =
     let front : 0 + length list ≡ length list = omega arith in

@@ -50,12 +50,12 @@ pub record Traced (before by : ℕ → Option ℕ) (n j : ℕ) (left given : Lis
       → stepsPart part left′ given′ k ≡ chainPart nodes before by part n ++ stepsPart part left given j
 
 -- node n opens, for x, into the k steps of its machine's path, of which the last leaves the machine; into none where n has no part
-pub record Opens (t : Tree) (r : Rows) (n x k : ℕ) (left given : List ℕ) : Type 0 where
+pub record NodeOpens (t : Tree) (r : Rows) (n x k : ℕ) (left given : List ℕ) : Type 0 where
   pub steps : Steps left given k
   pub shut : k ≡ 0 → (d : ℕ) → nodePart d t r n x ≡ []
   pub path : (k ≡ 0 → ⊥) → (d : ℕ) → stepsPart (nodePart d t r) left given k ≡ leavePart (nodePart (suc d) t r) n x
 
 -- the list is written over the bytes from a place on, where there is room for it, and the next place is the one after it
-pub record Written (before after : List ℕ) (at next : ℕ) (list : List ℕ) : Type 0 where
+pub record CommandsWritten (before after : List ℕ) (at next : ℕ) (list : List ℕ) : Type 0 where
   pub next-place : next ≡ at + length list
   pub bytes : after ≡ sets before at list

@@ -10,18 +10,7 @@ ghost use Rattle.definitions.specs.Sheet.{rowsOf};
 ghost use Rattle.plantheory.specs.Expand.{nodePart};
 ghost use Rattle.search.specs.Search.{nameOf};
 ghost use Rattle.expanding.specs.Names.{Traceable};
-ghost use Rattle.expanding.specs.Expanding.{Fresh, planOf, leavePart, stepsPart, Steps, Traced, Opens, Written};
-
-// How many levels there are.
-const LEVELS: u32 = 8;
-
-// The number at place i of a list.
-fn word(list: &[u32], i: u32) -> u32
-    requires { ⌜ i < length (now list) ⌝ }
-    ensures { λ r. ⌜ r ≡ getD (now (list .entry)) i 0 ⌝ }
-{
-    list[i as usize]
-}
+ghost use Rattle.expanding.specs.Expanding.{Fresh, planOf, leavePart, stepsPart, Steps, Traced, NodeOpens, CommandsWritten};
 
 // The word for node v in a list of a search's names.
 fn name(list: &[u32], v: u32) -> u32
@@ -80,7 +69,7 @@ fn trace_rows(sheet: &[u32], n: u32, j: u32, left: &mut [u32], given: &mut [u32]
     }
 }
 
-// Opens node n: the steps of the path by which the machine below it is left by command x; how many there are, 0 where there is no path.
+// NodeOpens node n: the steps of the path by which the machine below it is left by command x; how many there are, 0 where there is no path.
 fn open_node(
     book: &[u32],
     sheet: &[u32],
@@ -90,7 +79,7 @@ fn open_node(
     given: &mut [u32],
 ) -> u32
     requires { ⌜ Fresh (now book) (now sheet) × (n < nodes) × (x < commands) × (length (now left) ≡ nodes) × (length (now given) ≡ nodes) ⌝ }
-    ensures { λ k. ⌜ Opens (treeOf (now (book .entry))) (rowsOf (now (sheet .entry))) n x k (now (left .exit)) (now (given .exit)) ⌝ }
+    ensures { λ k. ⌜ NodeOpens (treeOf (now (book .entry))) (rowsOf (now (sheet .entry))) n x k (now (left .exit)) (now (given .exit)) ⌝ }
 {
     let m = book::below(book, n);
     if m == book::ABSENT {
@@ -107,7 +96,7 @@ fn open_node(
 // Writes command x; the place after it.
 fn put(buffer: &mut [u8], at: usize, x: u32) -> usize
     requires { ⌜ (at < length (now buffer)) × (x < commands) ⌝ }
-    ensures { λ r. ⌜ Written (now (buffer .entry)) (now (buffer .exit)) at r (x ∷ []) ⌝ }
+    ensures { λ r. ⌜ CommandsWritten (now (buffer .entry)) (now (buffer .exit)) at r (x ∷ []) ⌝ }
 {
     buffer[at] = x as u8;
     at + 1
@@ -125,7 +114,7 @@ fn expand_node(
 ) -> usize
     requires { ⌜ Fresh (now book) (now sheet) × (n < nodes) × (x < commands)
         × (at + length (leavePart (nodePart depth (treeOf (now book)) (rowsOf (now sheet))) n x) ≤ length (now buffer)) ⌝ }
-    ensures { λ r. ⌜ Written (now (buffer .entry)) (now (buffer .exit)) at r
+    ensures { λ r. ⌜ CommandsWritten (now (buffer .entry)) (now (buffer .exit)) at r
         (leavePart (nodePart depth (treeOf (now (book .entry))) (rowsOf (now (sheet .entry)))) n x) ⌝ }
 {
     if depth == 0 {
@@ -155,7 +144,7 @@ fn expand_path(
     requires { ⌜ Fresh (now book) (now sheet) × Steps (now left) (now given) count
         × (at + length (stepsPart (nodePart depth (treeOf (now book)) (rowsOf (now sheet))) (now left) (now given) count)
         ≤ length (now buffer)) ⌝ }
-    ensures { λ r. ⌜ Written (now (buffer .entry)) (now (buffer .exit)) at r
+    ensures { λ r. ⌜ CommandsWritten (now (buffer .entry)) (now (buffer .exit)) at r
         (stepsPart (nodePart depth (treeOf (now (book .entry))) (rowsOf (now (sheet .entry)))) (now (left .entry)) (now (given .entry)) count) ⌝ }
 {
     let mut next = at;
@@ -167,8 +156,8 @@ fn expand_path(
             book,
             sheet,
             depth,
-            word(left, k),
-            word(given, k),
+            book::word(left, k),
+            book::word(given, k),
             buffer,
             next,
         );
@@ -195,6 +184,6 @@ pub fn expand(
     let mut left = [0u32; 256];
     let mut given = [0u32; 256];
     let count = trace(before, by, b, 0, &mut left, &mut given);
-    let end = expand_path(book, sheet, LEVELS, &left, &given, count, buffer, 0);
+    let end = expand_path(book, sheet, book::LEVELS, &left, &given, count, buffer, 0);
     end as u32
 }

@@ -12,9 +12,6 @@ ghost use Rattle.definitions.specs.Edit.{badMachine, badNode, badCommand, isSta
 ghost use Rattle.reading.specs.Meaning.{commandOf};
 use reading::Command;
 
-// The lowest level that may be; the root is at level 1.
-const LEVELS: u32 = 8;
-
 // Whether a machine is out of range.
 fn bad_machine(m: u32) -> bool
     ensures { λ r. ⌜ r ≡ badMachine m ⌝ }
@@ -125,7 +122,7 @@ fn lowest(book: &[u32], n: u32) -> bool
     requires { ⌜ WellFormed (now book) × UsedNode (treeOf (now book)) n ⌝ }
     ensures { λ r. ⌜ r ≡ lowest (treeOf (now (book .entry))) n ⌝ }
 {
-    stepping::level(book, n) == LEVELS
+    stepping::level(book, n) == book::LEVELS
 }
 
 // Whether machine m is in use and stands at the lowest level.

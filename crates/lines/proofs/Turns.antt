@@ -22,7 +22,7 @@ use Rattle.definitions.proofs.Options.{none-some}
 use Rattle.definitions.proofs.Streams.{ended-refused, next-nothing, next-taken, next-refused, next-ended, next-size, read-taken, load-end, load-refused, load-taken}
 use Rattle.loading.specs.Loading.{TookNext, Stays}
 use Rattle.lines.specs.Turn.{Takes, here, on, end, finishes, stops, plans}
-use Rattle.lines.specs.Meaning.{PlanWritten, Taken, Halted, Fits, Stopped, Answered, TurnSays}
+use Rattle.lines.specs.Meaning.{PlanWritten, Taken, Halted, TurnFits, Stopped, AnsweredAt, TurnSays}
 use Rattle.lines.specs.declared.Turn.{Turn}
 use Rattle.lines.specs.declared.Turn.the-variants.{Line, End}
 
@@ -115,20 +115,20 @@ taken-halts {input} {b} {s} {at} {to} {b′} {s′} before {k} stays =
 -- ---- what is given where they end
 
 -- what lies further on than an offset lies further on than one before it
-fits-earlier : (input : List ℕ) {at to : ℕ} (list : List ℕ) (turn : Turn) (list′ : List ℕ) → at ≤ to → Fits input to list turn list′ → Fits input at list turn list′
+fits-earlier : (input : List ℕ) {at to : ℕ} (list : List ℕ) (turn : Turn) (list′ : List ℕ) → at ≤ to → TurnFits input to list turn list′ → TurnFits input at list turn list′
 fits-earlier input list (Line size next) list′ before fits = (omega arith, fits .1, fits .2, fits .3)
 fits-earlier input list End list′ before fits = fits
 
 -- the line of a refused command is given where the command stands
 stopped-answers : {input b s : List ℕ} {at k : ℕ} {list : List ℕ} {turn : Turn} {list′ : List ℕ}
-    → request (treeOf b) (drop at input) ≡ stream (refused k) → Stopped input at k list turn list′ → Answered input b s at list turn list′
+    → request (treeOf b) (drop at input) ≡ stream (refused k) → Stopped input at k list turn list′ → AnsweredAt input b s at list turn list′
 stopped-answers {k = k} e stopped = record { gives = rw (stopped .given) (stops k e); fits = stopped .fits }
 
 -- a plan that stands at an offset
 module _ {input b s : List ℕ} {at : ℕ} {list : List ℕ} (inside : at < length input) (is : byteAt input at ≡ 0x19) where
   -- it is cut short
   pub plan-cut : length input - at < planSize → {turn : Turn} {list′ : List ℕ} → Stopped input at 4 list turn list′
-      → Answered input b s at list turn list′
+      → AnsweredAt input b s at list turn list′
   plan-cut short stopped =
       let rest = drop (at + 1) input in
       stopped-answers
@@ -136,7 +136,7 @@ module _ {input b s : List ℕ} {at : ℕ} {list : List ℕ} (inside : at < leng
 
   -- its line is given
   pub plan-whole : planSize ≤ length input - at → {x y size : ℕ} {list′ : List ℕ} → x ≡ pairAt (drop (at + 1) input) 0
-      → y ≡ pairAt (drop (at + 1) input) 2 → PlanWritten b s x y list size list′ → Answered input b s at list (Line size (at + planSize)) list′
+      → y ≡ pairAt (drop (at + 1) input) 2 → PlanWritten b s x y list size list′ → AnsweredAt input b s at list (Line size (at + planSize)) list′
   plan-whole whole {x} {y} from to written =
       let rest = drop (at + 1) input in
       let e : request (treeOf b) (drop at input) ≡ plan x y =
@@ -170,7 +170,7 @@ module _ {input b s : List ℕ} {at to k : ℕ} {b′ s′ : List ℕ} (halted :
       }
 
   -- what is given at the offset where they end
-  pub says-answered : {list : List ℕ} {turn : Turn} {list′ : List ℕ} → Answered input b′ s′ to list turn list′
+  pub says-answered : {list : List ℕ} {turn : Turn} {list′ : List ℕ} → AnsweredAt input b′ s′ to list turn list′
       → TurnSays input b s at list turn b′ s′ list′
   says-answered {list} {turn} {list′} given =
       record {

@@ -9,12 +9,12 @@ use Rattle.definitions.specs.Limits.{planBuffer}
 use Rattle.definitions.specs.Session.{decimal, spaced, planLine, noLine, stopLine}
 use Rattle.storing.specs.Stored.{Stored}
 use Rattle.storing.proofs.Laws.{stored-then, stored-none, stored-is, stored-front}
-use Rattle.lines.specs.Meaning.{longestLine, numbers, Written}
+use Rattle.lines.specs.Meaning.{longestLine, numbers, LineWritten}
 use Rattle.lines.proofs.Digits.{decimal-short, decimal-byte, decimal-length, spaced-first, spaced-numbers, numbers-next, numbers-none, numbers-short}
 
 -- what is stored at the front of a list that has room for every line
 front : {list bytes list′ : List ℕ} {size : ℕ} → longestLine ≤ length list → Stored list 0 bytes size list′ → length bytes ≤ longestLine
-    → Written list bytes size list′
+    → LineWritten list bytes size list′
 front {list} {bytes} {list′} {size} room st short =
     let (count, words) = stored-front st (omega arith) in
     record {
@@ -74,7 +74,7 @@ module _ {list : List ℕ} (room : longestLine ≤ length list) where
   pub plan-written : (cost : ℕ) (bytes : List ℕ) (count : ℕ) {p q e size : ℕ} {m n o list′ : List ℕ} → cost < 2 ^ 32 → count ≤ planBuffer
       → count ≤ length bytes → ((j : ℕ) → getD bytes j 0 < 256) → Stored list 0 (decimal cost) p m → Stored m p (32 ∷ decimal count) q n
       → Stored n q (numbers (take count bytes)) e o → Stored o e (10 ∷ []) size list′
-      → Written list (planLine cost (take count bytes)) size list′
+      → LineWritten list (planLine cost (take count bytes)) size list′
   plan-written cost bytes count {q = q} {size = size} {n = n} {list′ = list′} small few there byte first counted listed last =
       let numbered = length-take-le count bytes there in
       let tail : Stored n q (spaced (take count bytes)) size list′ = numbers-end (take count bytes) listed last in
@@ -94,7 +94,7 @@ module _ {list : List ℕ} (room : longestLine ≤ length list) where
 
   -- a refused plan's
   pub no-written : (k : ℕ) {p q e size : ℕ} {m n o list′ : List ℕ} → k < 2 ^ 32 → Stored list 0 (110 ∷ []) p m → Stored m p (111 ∷ []) q n
-      → Stored n q (32 ∷ decimal k) e o → Stored o e (10 ∷ []) size list′ → Written list (noLine k) size list′
+      → Stored n q (32 ∷ decimal k) e o → Stored o e (10 ∷ []) size list′ → LineWritten list (noLine k) size list′
   no-written k {size = size} {list′ = list′} small first second refusal last =
       let whole : Stored list 0 (noLine k) size list′ = stored-then first (stored-then second (number-then k [] refusal (ends last))) in
       front room whole
@@ -103,7 +103,7 @@ module _ {list : List ℕ} (room : longestLine ≤ length list) where
   -- a refused command's
   pub stop-written : (k at : ℕ) {p q e size : ℕ} {m n o list′ : List ℕ} → k < 2 ^ 32 → at < 2 ^ 64
       → Stored list 0 (115 ∷ 116 ∷ 111 ∷ 112 ∷ []) p m → Stored m p (32 ∷ decimal k) q n → Stored n q (32 ∷ decimal at) e o
-      → Stored o e (10 ∷ []) size list′ → Written list (stopLine k at) size list′
+      → Stored o e (10 ∷ []) size list′ → LineWritten list (stopLine k at) size list′
   stop-written k at {size = size} {list′ = list′} small fits word refusal offset last =
       let whole : Stored list 0 (stopLine k at) size list′ = stored-then word (number-then k (at ∷ []) refusal (number-then at [] offset (ends last))) in
       front room whole

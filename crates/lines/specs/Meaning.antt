@@ -24,7 +24,7 @@ numbers [] = []
 numbers (n ∷ ns) = 32 ∷ (decimal n ++ numbers ns)
 
 -- these bytes, so many, stand at the front of a list, and the rest of it is untouched
-pub record Written (list bytes : List ℕ) (size : ℕ) (list′ : List ℕ) : Type 0 where
+pub record LineWritten (list bytes : List ℕ) (size : ℕ) (list′ : List ℕ) : Type 0 where
   pub front : take size list′ ≡ bytes
   pub room : size ≤ length list
   pub rest : drop size list′ ≡ drop size list
@@ -33,7 +33,7 @@ pub record Written (list bytes : List ℕ) (size : ℕ) (list′ : List ℕ) : T
 pub record PlanWritten (book sheet : List ℕ) (a b : ℕ) (list : List ℕ) (size : ℕ) (list′ : List ℕ) : Type 0 where
   pub bytes : List ℕ
   pub prints : PlanPrints (treeOf book) (rowsOf sheet) a b bytes
-  pub written : Written list bytes size list′
+  pub written : LineWritten list bytes size list′
 
 -- commands of the input are taken from one offset to another; the book is well formed again and the sheet is true of it
 pub record Taken (input book sheet : List ℕ) (at to : ℕ) (book′ sheet′ : List ℕ) : Type 0 where
@@ -56,23 +56,23 @@ givenOf End list = end
 
 -- the line has room in the list, whose rest is untouched, and the offset to go on from lies further on in the input; at the end the list
 -- is untouched
-abbrev pub Fits : List ℕ → ℕ → List ℕ → Turn → List ℕ → Type 0
-Fits input at list (Line size next) list′ = (at < next) × (next ≤ length input) × (size ≤ length list) × (drop size list′ ≡ drop size list)
-Fits input at list End list′ = list′ ≡ list
+abbrev pub TurnFits : List ℕ → ℕ → List ℕ → Turn → List ℕ → Type 0
+TurnFits input at list (Line size next) list′ = (at < next) × (next ≤ length input) × (size ≤ length list) × (drop size list′ ≡ drop size list)
+TurnFits input at list End list′ = list′ ≡ list
 
 -- the line of a command refused at an offset is given, and nothing of the input is left
 pub record Stopped (input : List ℕ) (at number : ℕ) (list : List ℕ) (turn : Turn) (list′ : List ℕ) : Type 0 where
   pub given : givenOf turn list′ ≡ line (stopLine number at) (length input)
-  pub fits : Fits input at list turn list′
+  pub fits : TurnFits input at list turn list′
 
 -- what is given at an offset where no command is taken
-pub record Answered (input book sheet : List ℕ) (at : ℕ) (list : List ℕ) (turn : Turn) (list′ : List ℕ) : Type 0 where
+pub record AnsweredAt (input book sheet : List ℕ) (at : ℕ) (list : List ℕ) (turn : Turn) (list′ : List ℕ) : Type 0 where
   pub gives : Gives input (treeOf book) (rowsOf sheet) at (givenOf turn list′)
-  pub fits : Fits input at list turn list′
+  pub fits : TurnFits input at list turn list′
 
 -- a turn of the session from an offset of its input on: what is given, and that the book is well formed again and the sheet true of it
 pub record TurnSays (input book sheet : List ℕ) (at : ℕ) (list : List ℕ) (turn : Turn) (book′ sheet′ list′ : List ℕ) : Type 0 where
   pub formed : WellFormed book′
   pub filled : TrueSheet (treeOf book′) sheet′
   pub turns : Turns input (treeOf book) (rowsOf sheet) at (givenOf turn list′) (treeOf book′) (rowsOf sheet′)
-  pub fits : Fits input at list turn list′
+  pub fits : TurnFits input at list turn list′

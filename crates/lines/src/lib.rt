@@ -10,8 +10,8 @@ ghost use Rattle.definitions.specs.Truth.{TrueSheet};
 ghost use Rattle.definitions.specs.Stream.{byteAt};
 ghost use Rattle.definitions.specs.Session.{decimal, planLine, noLine, stopLine};
 ghost use Rattle.storing.specs.Stored.{Stored};
-ghost use Rattle.lines.specs.Meaning.{longestLine, numbers, Written, PlanWritten};
-ghost use Rattle.lines.specs.Meaning.{Halted, Stopped, Answered, TurnSays};
+ghost use Rattle.lines.specs.Meaning.{longestLine, numbers, LineWritten, PlanWritten};
+ghost use Rattle.lines.specs.Meaning.{Halted, Stopped, AnsweredAt, TurnSays};
 use loading::Turn as Taking;
 use planning::PlanAnswer;
 
@@ -80,7 +80,7 @@ fn put_numbers(list: &mut [u8], at: usize, bytes: &[u8], count: usize) -> usize
 // Writes the line of a plan whose commands are the first count of some bytes; its length.
 fn put_plan(list: &mut [u8], cost: u32, commands: &[u8], count: usize) -> usize
     requires { ⌜ (longestLine ≤ length (now list)) × (count ≤ planBuffer) × (count ≤ length (now commands)) ⌝ }
-    ensures { λ r. ⌜ Written (now (list .entry)) (planLine cost (take count (now (commands .entry)))) r (now (list .exit)) ⌝ }
+    ensures { λ r. ⌜ LineWritten (now (list .entry)) (planLine cost (take count (now (commands .entry)))) r (now (list .exit)) ⌝ }
 {
     let counted = put_decimal(list, 0, cost as u64);
     let listed = put_number(list, counted, count as u64);
@@ -91,7 +91,7 @@ fn put_plan(list: &mut [u8], cost: u32, commands: &[u8], count: usize) -> usize
 // Writes the line of a plan that is refused; its length.
 fn put_no(list: &mut [u8], number: u32) -> usize
     requires { ⌜ longestLine ≤ length (now list) ⌝ }
-    ensures { λ r. ⌜ Written (now (list .entry)) (noLine number) r (now (list .exit)) ⌝ }
+    ensures { λ r. ⌜ LineWritten (now (list .entry)) (noLine number) r (now (list .exit)) ⌝ }
 {
     let second = storing::put_byte(list, 0, 110);
     let refusal = storing::put_byte(list, second, 111);
@@ -112,7 +112,7 @@ fn put_stop_word(list: &mut [u8]) -> usize
 // Writes the line of a refused command whose opcode byte stands at an offset; its length.
 fn put_stop(list: &mut [u8], number: u32, at: usize) -> usize
     requires { ⌜ longestLine ≤ length (now list) ⌝ }
-    ensures { λ r. ⌜ Written (now (list .entry)) (stopLine number at) r (now (list .exit)) ⌝ }
+    ensures { λ r. ⌜ LineWritten (now (list .entry)) (stopLine number at) r (now (list .exit)) ⌝ }
 {
     let refusal = put_stop_word(list);
     let offset = put_number(list, refusal, number as u64);
@@ -148,7 +148,7 @@ fn stop_turn(input: &[u8], at: usize, number: u32, list: &mut [u8]) -> Turn
 fn plan_turn(book: &[u32], sheet: &[u32], input: &[u8], at: usize, list: &mut [u8]) -> Turn
     requires { ⌜ WellFormed (now book) × TrueSheet (treeOf (now book)) (now sheet) × (at < length (now input))
         × (byteAt (now input) at ≡ 0x19) × (longestLine ≤ length (now list)) ⌝ }
-    ensures { λ r. ⌜ Answered (now (input .entry)) (now (book .entry)) (now (sheet .entry)) at (now (list .entry)) r (now (list .exit)) ⌝ }
+    ensures { λ r. ⌜ AnsweredAt (now (input .entry)) (now (book .entry)) (now (sheet .entry)) at (now (list .entry)) r (now (list .exit)) ⌝ }
 {
     if input.len() - at < PLAN_SIZE {
         return stop_turn(input, at, 4, list);

@@ -6,7 +6,6 @@ use mathlib.Core.List.{List, [], _∷_}
 use Prim.Native.Nat.{ℕ, zero, suc, _<_}
 use native.Mathlib.Omega.{arith}
 use borrow.Author.Tests.{ne-eqb}
-use Rattle.definitions.specs.Basics.{isSome}
 use Rattle.definitions.specs.Limits.{machines, absent}
 use Rattle.definitions.specs.Book.{word, number, under}
 use Rattle.definitions.specs.Edit.{single}

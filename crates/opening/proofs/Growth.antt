@@ -18,8 +18,7 @@ use Rattle.definitions.specs.Open.{lastUnder, cell, rowOwner, rowBelow, rowStar
 use Rattle.definitions.proofs.Options.{equal-or-not, put-same, put-other, bind-some, isAt-some, isAt-other}
 use Rattle.definitions.proofs.Words.{under-in}
 use Rattle.book.specs.Fields.{Holds}
-use Rattle.book.proofs.Stores.{holds-then}
-use Rattle.opening.specs.Writes.{withHeld, withStarted, withLinks}
+use Rattle.opening.specs.Writes.{withClaimed, withStarted, withLinks}
 use Rattle.opening.proofs.Last.{last-pass, last-skip, last-under}
 use Rattle.opening.proofs.Reading.{says}
 
@@ -109,6 +108,7 @@ joined f n l =
     let up : ℕ → ℕ → Option Transition = put f n (put (f n) 0 (neighbour (some l))) in
     put up l (put (up l) 1 (neighbour (some n)))
 
+-- what they are for a node and a command
 joined-at : (f : ℕ → ℕ → Option Transition) (n l m x : ℕ)
     → joined f n l m x ≡ cond (eqb m l && eqb x 1) (neighbour (some n)) (cond (eqb m n && eqb x 0) (neighbour (some l)) (f m x))
 joined-at f n l m x =
@@ -169,9 +169,9 @@ rootless owner below start holder transition =
       transition = transition;
     }
 
--- a book that holds a tree holds the same tree said otherwise
-holds-as : {ws : List ℕ} {t u : Tree} → t ≡ u → Holds ws t → Holds ws u
-holds-as same held = record { length = held .length; tree = held .tree ∙ same }
+-- a store into a book that holds t makes of it the tree that f makes of t, said otherwise
+holds-on : {ws after : List ℕ} {t u : Tree} (f : Tree → Tree) → f t ≡ u → Holds ws t → Holds after (f (treeOf ws)) → Holds after u
+holds-on f same first second = record { length = second .length; tree = second .tree ∙ ap f (first .tree) ∙ same }
 
 -- a choice between values of a function is the function's value at the choice
 cond-of : {A B : Type 0} (f : A → B) (b : Bool) (x y : A) → cond b (f x) (f y) ≡ f (cond b x y)
@@ -207,8 +207,8 @@ module _ (rows : List ℕ) where
 
     -- node n as the holder of that machine
     holder-row : (o b s : ℕ → Option ℕ) (x : ℕ → ℕ → Option Transition) (w : ℕ) → w ≡ cell rows n 1
-        → withHeld (rootless o b s (holders n) x) n w ≡ rootless o b s (holders (suc n)) x
-    unfolding withHeld rowBelow
+        → withClaimed (rootless o b s (holders n) x) n w ≡ rootless o b s (holders (suc n)) x
+    unfolding withClaimed rowBelow
     holder-row o b s x w e =
         cond-of (λ f. rootless o b s f x) (ltb w machines) (put (holders n) w (some n)) (holders n)
         ∙ ap (λ f. rootless o b s f x)
@@ -240,12 +240,13 @@ module _ (rows : List ℕ) where
     -- row n is written, one field or two after the other
     pub row-written : (o b s l : ℕ) {w₀ w₁ w₂ w₃ w₄ w₅ : List ℕ} → o ≡ cell rows n 0 → b ≡ cell rows n 1 → s ≡ cell rows n 2
         → l ≡ word (nextLower rows n) → Holds w₀ (grown rows n absent) → Holds w₁ (withOwner (treeOf w₀) n (number o))
-        → Holds w₂ (withBelow (treeOf w₁) n (number b)) → Holds w₃ (withHeld (treeOf w₂) n b) → Holds w₄ (withStarted (treeOf w₃) n o s)
+        → Holds w₂ (withBelow (treeOf w₁) n (number b)) → Holds w₃ (withClaimed (treeOf w₂) n b) → Holds w₄ (withStarted (treeOf w₃) n o s)
         → Holds w₅ (withLinks (treeOf w₄) n l) → Holds w₅ (grown rows (suc n) absent)
     unfolding grown
     row-written o b s l eo eb es el begun owner below holder start link =
-        let h₁ = holds-as (owner-row (belows n) (starts n) (holders n) (linked rows n) o eo) (holds-then (λ t. withOwner t n (number o)) begun owner) in
-        let h₂ = holds-as (below-row (owners (suc n)) (starts n) (holders n) (linked rows n) b eb) (holds-then (λ t. withBelow t n (number b)) h₁ below) in
-        let h₃ = holds-as (holder-row (owners (suc n)) (belows (suc n)) (starts n) (linked rows n) b eb) (holds-then (λ t. withHeld t n b) h₂ holder) in
-        let h₄ = holds-as (start-row (owners (suc n)) (belows (suc n)) (holders (suc n)) (linked rows n) o s eo es) (holds-then (λ t. withStarted t n o s) h₃ start) in
-        holds-as (link-row (owners (suc n)) (belows (suc n)) (starts (suc n)) (holders (suc n)) l el) (holds-then (λ t. withLinks t n l) h₄ link)
+        let h₁ = holds-on (λ t. withOwner t n (number o)) (owner-row (belows n) (starts n) (holders n) (linked rows n) o eo) begun owner in
+        let h₂ = holds-on (λ t. withBelow t n (number b)) (below-row (owners (suc n)) (starts n) (holders n) (linked rows n) b eb) h₁ below in
+        let h₃ = holds-on (λ t. withClaimed t n b) (holder-row (owners (suc n)) (belows (suc n)) (starts n) (linked rows n) b eb) h₂ holder in
+        let h₄ =
+        holds-on (λ t. withStarted t n o s) (start-row (owners (suc n)) (belows (suc n)) (holders (suc n)) (linked rows n) o s eo es) h₃ start in
+        holds-on (λ t. withLinks t n l) (link-row (owners (suc n)) (belows (suc n)) (starts (suc n)) (holders (suc n)) l el) h₄ link

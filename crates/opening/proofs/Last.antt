@@ -49,9 +49,3 @@ last-under (suc k) p n e = go (p k) (last-under k p n) e
         let here : k ≡ n = some-same refl f in
         omega arith
     go false h f = omega (arith, h f)
-
--- tests that agree under the limit find the same number
-pub last-same : (k : ℕ) (p q : ℕ → Bool) → ((j : ℕ) → j < k → p j ≡ q j) → lastUnder k p ≡ lastUnder k q
-unfolding lastUnder
-last-same zero p q h = refl
-last-same (suc k) p q h = rw (h k (omega arith), last-same k p q (λ j l. h j (omega arith)))

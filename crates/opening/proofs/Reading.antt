@@ -12,7 +12,6 @@ use lib.ListN.{length, getD}
 use borrow.Author.Tests.{eq-eqb, ne-eqb}
 use Rattle.definitions.specs.Basics.{isSome, isAt}
 use Rattle.definitions.specs.Limits.{machines, nodes, costs, absent}
-use Rattle.definitions.specs.Tree.{Transition}
 use Rattle.definitions.specs.Book.{word, number, under, transitionWord, transitionOf, machineWord, treeOf}
 use Rattle.definitions.specs.Open.{lastUnder, cell, rowOwner, nextLower, neighbour, free}
 use Rattle.definitions.proofs.Options.{equal-or-not, some-same}

@@ -9,8 +9,8 @@ use Rattle.definitions.specs.Edit.{withTransition}
 use Rattle.definitions.specs.Open.{neighbour}
 
 -- node n as the holder of the machine below it, where that is one
-unfoldable pub withHeld : Tree → ℕ → ℕ → Tree
-withHeld t n below = cond (ltb below machines) (withHolder t below (some n)) t
+unfoldable pub withClaimed : Tree → ℕ → ℕ → Tree
+withClaimed t n below = cond (ltb below machines) (withHolder t below (some n)) t
 
 -- node n as the start of its machine, where its row says so
 unfoldable pub withStarted : Tree → ℕ → ℕ → ℕ → Tree

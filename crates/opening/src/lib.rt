@@ -13,9 +13,12 @@ ghost use Rattle.definitions.specs.Open.{freshTree, ladderTree, openRows};
 ghost use Rattle.definitions.specs.Open.{rowLength, rowCount, cell, nextLower, grown, free, rootOf, rowTree};
 ghost use Rattle.definitions.specs.Calls.{OpenSays};
 ghost use Rattle.book.specs.Fields.{Holds};
-ghost use Rattle.opening.specs.Writes.{withHeld, withStarted, withLinks};
+ghost use Rattle.opening.specs.Writes.{withClaimed, withStarted, withLinks};
 
 mod table;
+
+// How many numbers a row of a table has.
+const ROW: usize = 3;
 
 // Leaves no machine and no node in a book, as it is with none of a table's rows.
 fn clear(book: &mut [u32])
@@ -40,7 +43,7 @@ fn row(rows: &[u32], n: u32, k: u32) -> u32
     requires { ⌜ (n < rowCount (now rows)) × (n < nodes) × (k < rowLength) ⌝ }
     ensures { λ r. ⌜ r ≡ cell (now (rows .entry)) n k ⌝ }
 {
-    let i = 3 * (n as usize) + (k as usize);
+    let i = ROW * (n as usize) + (k as usize);
     rows[i]
 }
 
@@ -66,7 +69,7 @@ fn lower(rows: &[u32], n: u32) -> u32
 // Writes node n as the holder of the machine below it, where there is one.
 fn set_holder(book: &mut [u32], n: u32, below: u32)
     requires { ⌜ (length (now book) ≡ bookLength) × (n < nodes) ⌝ }
-    ensures { λ _. ⌜ Holds (now (book .exit)) (withHeld (treeOf (now (book .entry))) n below) ⌝ }
+    ensures { λ _. ⌜ Holds (now (book .exit)) (withClaimed (treeOf (now (book .entry))) n below) ⌝ }
 {
     if below < book::MACHINES {
         book::set_holder(book, below, n);
@@ -116,7 +119,7 @@ fn set_rows(book: &mut [u32], rows: &[u32])
     requires { ⌜ (rowCount (now rows) ≤ nodes) × Holds (now book) (grown (now rows) 0 absent) ⌝ }
     ensures { λ _. ⌜ Holds (now (book .exit)) (grown (now (rows .entry)) (rowCount (now (rows .entry))) absent) ⌝ }
 {
-    let count = rows.len() / 3;
+    let count = rows.len() / ROW;
     let mut n: u32 = 0;
     while (n as usize) < count {
         set_row(book, rows, n);

@@ -19,10 +19,7 @@ ghost use Rattle.refreshing.specs.Parts.{ExitWritten, ExitsWritten};
 ghost use Rattle.refreshing.specs.Refresh.{machineLevel, MachineLevels, Fillable, Filled, FreshBelow, StepFilled, FilledBelow};
 ghost use Rattle.refreshing.specs.Refresh.{Refreshes};
 use sheet::OwnExit;
-use sheet::wide;
-
-// How many levels there are.
-const LEVELS: u32 = 8;
+use book::wide;
 
 // An entry of the tables: the place where a move leads, ABSENT where there is no move, and what it costs.
 struct Entry {
@@ -34,14 +31,6 @@ struct Entry {
 struct WayOut {
     cost: u64,
     node: u32,
-}
-
-// The number at place i of a list.
-fn word(list: &[u32], i: u32) -> u32
-    requires { ⌜ i < length (now list) ⌝ }
-    ensures { λ r. ⌜ r ≡ getD (now (list .entry)) i 0 ⌝ }
-{
-    list[i as usize]
 }
 
 // Node n gets place k where it belongs to machine m; how many nodes have a place then.
@@ -90,7 +79,7 @@ fn table_entry(book: &[u32], sheet: &[u32], places: &[u32], n: u32, x: u32) -> E
 {
     let w = book::counting(book, n, x);
     let price = leave(book, sheet, n, x, 0, w % 65536);
-    let v = word(places, w / 65536 % book::NODES);
+    let v = book::word(places, w / 65536 % book::NODES);
     if w == book::BLANK {
         return Entry {
             target: book::ABSENT,
@@ -123,7 +112,7 @@ fn tables(
 {
     let mut j = 0u32;
     while j < 16 * k {
-        let e = table_entry(book, sheet, places, word(members, j / 16), j % 16);
+        let e = table_entry(book, sheet, places, book::word(members, j / 16), j % 16);
         target[j as usize] = e.target;
         price[j as usize] = e.price;
         j += 1;
@@ -151,7 +140,7 @@ fn find(
 {
     let k = gather(book, m, members, places);
     tables(book, sheet, k, members, places, target, price);
-    let source = word(places, book::start(book, m));
+    let source = book::word(places, book::start(book, m));
     search::search(
         k as usize,
         source as usize,
@@ -210,10 +199,10 @@ fn write_nodes(sheet: &mut [u32], k: u32, members: &[u32], dist: &[u64], before:
         write_node(
             sheet,
             members,
-            word(members, i),
+            book::word(members, i),
             d,
-            word(before, i),
-            word(by, i),
+            book::word(before, i),
+            book::word(by, i),
         );
         i += 1;
     }
@@ -245,7 +234,7 @@ fn cheapest(book: &[u32], sheet: &[u32], k: u32, members: &[u32], dist: &[u64], 
     let mut node = book::ABSENT;
     let mut j = 0u32;
     while j < k {
-        let n = word(members, j);
+        let n = book::word(members, j);
         let d = dist[j as usize];
         let c = way_cost(book, sheet, n, d, x);
         if c < cost {
@@ -367,7 +356,7 @@ fn fill_if_stale(
         × FreshBelow (treeOf (now book)) l (rowsOf (now sheet)) × (m < machines) × TableRoom (now target) (now price) ⌝ }
     ensures { λ _. ⌜ StepFilled (treeOf (now (book .entry))) l m (now (sheet .entry)) (now (sheet .exit)) ⌝ }
 {
-    if word(list, m) != l {
+    if book::word(list, m) != l {
         return;
     }
     if sheet::stale(sheet, m) != 1 {
@@ -404,7 +393,7 @@ pub fn refresh(book: &[u32], sheet: &mut [u32])
     let list = machine_levels(book);
     let mut target = [0u32; 4096];
     let mut price = [0u64; 4096];
-    let mut l = LEVELS;
+    let mut l = book::LEVELS;
     while 0 < l {
         fill_level(book, sheet, &list, l, &mut target, &mut price);
         l -= 1;

@@ -51,8 +51,8 @@ fn show(text: &[u8], answer: RunAnswer, buffer: &[u8; 255]) {
 
 // Runs streams on an opening and writes the answer.
 fn run(text: &[u8], opening: Opening, bytes: &[u8], ends: &[usize], a: u32, b: u32) {
-    let mut book = [0u32; 4737];
-    let mut sheet = [0u32; 2880];
+    let mut book = [0u32; book::BOOK];
+    let mut sheet = [0u32; sheet::SHEET];
     let mut buffer = [0u8; 255];
     let answer = wholerun::whole_run(
         opening,
@@ -81,8 +81,8 @@ fn mast(text: &[u8], a: u32, b: u32) {
 
 // A sheet one word too long, then a plan buffer of 254 bytes: both are refused with 1, and no list is written.
 fn lengths() {
-    let mut book = [7u32; 4737];
-    let mut sheet = [7u32; 2881];
+    let mut book = [7u32; book::BOOK];
+    let mut sheet = [7u32; sheet::SHEET + 1];
     let mut buffer = [7u8; 255];
     let long = wholerun::whole_run(
         Opening::Fresh,
@@ -98,7 +98,7 @@ fn lengths() {
     let short = wholerun::whole_run(
         Opening::Fresh,
         &mut book,
-        &mut sheet[..2880],
+        &mut sheet[..sheet::SHEET],
         b"",
         &[],
         0,

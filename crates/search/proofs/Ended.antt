@@ -11,7 +11,7 @@ use Rattle.definitions.specs.Basics.{iterate}
 use Rattle.definitions.specs.Limits.{nodes, absent}
 use Rattle.definitions.specs.Step.{Arrival}
 use Rattle.definitions.proofs.Options.{equal-or-not}
-use Rattle.search.specs.Search.{largestMove, unreached, distanceOf, nameOf, Named, Nearer, Certificate}
+use Rattle.search.specs.Search.{largestMove, unreached, distanceOf, nameOf, NamedMove, Nearer, Certificate}
 use Rattle.search.specs.Parts.{at, Labels, labels}
 use Rattle.search.proofs.Reading.{distance-is, distance-some, distance-none, name-is, name-none}
 use Rattle.search.proofs.Counting.{count-some}
@@ -61,10 +61,10 @@ module _ {k s goal : ℕ} {move : ℕ → ℕ → Option Arrival} {first : Label
 
   -- a reached node but the source has its names
   is-named : (v : ℕ) → v < k → (v ≡ s → ⊥) → (at dist v ≡ unreached → ⊥)
-      → Named k move (distanceOf k dist) (nameOf k before) (nameOf k by) v (at dist v)
+      → NamedMove k move (distanceOf k dist) (nameOf k before) (nameOf k by) v (at dist v)
   is-named v h other there = go (inv .others v h other)
     where
-      go : Label k move (labels dist before by) rank n v → Named k move (distanceOf k dist) (nameOf k before) (nameOf k by) v (at dist v)
+      go : Label k move (labels dist before by) rank n v → NamedMove k move (distanceOf k dist) (nameOf k before) (nameOf k by) v (at dist v)
       go (by-move u x w b y in-u done less step d) =
           record {
             node = u;
@@ -147,7 +147,7 @@ module _ {k s goal : ℕ} {move : ℕ → ℕ → Option Arrival} {first : Label
         named =
             λ v c other e.
             let (h, same, there) = distance-some k dist v e in
-            subst (Named k move (distanceOf k dist) (nameOf k before) (nameOf k by) v) same (is-named v h other there);
+            subst (NamedMove k move (distanceOf k dist) (nameOf k before) (nameOf k by) v) same (is-named v h other there);
         chain =
             λ v c e.
             let (h, same, there) = distance-some k dist v e in

@@ -6,7 +6,7 @@ use native.Mathlib.Omega.{arith}
 use Rattle.definitions.specs.Limits.{absent}
 use Rattle.definitions.proofs.Options.{equal-or-not}
 use Rattle.search.specs.Search.{unreached}
-use Rattle.search.specs.Parts.{Labels, Filled}
+use Rattle.search.specs.Parts.{Labels, BlankedTo}
 use Rattle.search.proofs.Stores.{Put}
 
 -- the first n places hold w, and the others what they held
@@ -28,7 +28,7 @@ upto-more {w} {n} {f} {g} {h} u put =
 
 -- the three lists filled up to k, and 0 put at the source
 pub filled : {k source : ℕ} {old new : Labels} {dist : ℕ → ℕ} → source < k → Upto unreached k (old .dist) dist → Put dist (new .dist) source 0
-    → Upto absent k (old .before) (new .before) → Upto absent k (old .by) (new .by) → Filled k source old new
+    → Upto absent k (old .before) (new .before) → Upto absent k (old .by) (new .by) → BlankedTo k source old new
 filled inside dist put before by =
     record {
       blank =

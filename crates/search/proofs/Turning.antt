@@ -7,7 +7,7 @@ use lib.ListN.{length}
 use Rattle.definitions.specs.Basics.{put}
 use Rattle.definitions.specs.Limits.{nodes, commands}
 use Rattle.search.specs.Search.{unreached, rowMove, moveOf, Tables, Room, Searched}
-use Rattle.search.specs.Parts.{at, Labels, labels, Blank, Filled, Relaxed, Row, Listing, Grown, Places, Brought}
+use Rattle.search.specs.Parts.{at, Labels, labels, Blank, BlankedTo, Relaxed, Row, Listing, Grown, Places, Brought}
 use Rattle.search.proofs.Reading.{row-words, move-row, move-some}
 use Rattle.search.proofs.Stores.{put-put}
 use Rattle.search.proofs.Listing.{few}
@@ -128,7 +128,7 @@ module _ {k s : ℕ} {target price : List ℕ} (tables : Tables k s target price
 
 -- a search in lists that were filled before
 pub filled-searched : {k s goal : ℕ} {target price : List ℕ} (dist before by mid-dist mid-before mid-by : List ℕ) {dist′ before′ by′ : List ℕ}
-    → Filled k s (labels dist before by) (labels mid-dist mid-before mid-by) → Searched k s goal target price mid-dist mid-before mid-by dist′ before′ by′
+    → BlankedTo k s (labels dist before by) (labels mid-dist mid-before mid-by) → Searched k s goal target price mid-dist mid-before mid-by dist′ before′ by′
     → Searched k s goal target price dist before by dist′ before′ by′
 filled-searched dist before by mid-dist mid-before mid-by fill found =
     record {

@@ -40,7 +40,7 @@ pub record Blank (k source : ℕ) (st : Labels) : Type 0 where
   pub by : (v : ℕ) → v < k → st .by v ≡ absent
 
 -- the words of the k nodes are made blank, and the rest is as it was
-pub record Filled (k source : ℕ) (old new : Labels) : Type 0 where
+pub record BlankedTo (k source : ℕ) (old new : Labels) : Type 0 where
   pub blank : Blank k source new
   pub rest : (v : ℕ) → k ≤ v → Alike old new v
 

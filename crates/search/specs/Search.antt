@@ -60,7 +60,7 @@ pub record Room (k : ℕ) (dist before by : List ℕ) : Type 0 where
   pub by-room : k ≤ length by
 
 -- node v, reached at cost c, names a move of a reached node that leads to v at exactly this cost
-pub record Named (k : ℕ) (move : ℕ → ℕ → Option Arrival) (distance before by : ℕ → Option ℕ) (v c : ℕ) : Type 0 where
+pub record NamedMove (k : ℕ) (move : ℕ → ℕ → Option Arrival) (distance before by : ℕ → Option ℕ) (v c : ℕ) : Type 0 where
   pub node : ℕ
   pub command : ℕ
   pub node-cost : ℕ
@@ -89,7 +89,7 @@ pub record Certificate (k source goal : ℕ) (move : ℕ → ℕ → Option Arri
   pub relaxed : (u c x : ℕ) (b : Arrival) → distance u ≡ some c → Nearer distance goal c → move u x ≡ some b
       → (d : ℕ) × (distance (b .node) ≡ some d) × (d ≤ c + b .cost)
   -- every reached node but the source names a move that gives its distance
-  pub named : (v c : ℕ) → (v ≡ source → ⊥) → distance v ≡ some c → Named k move distance before by v c
+  pub named : (v c : ℕ) → (v ≡ source → ⊥) → distance v ≡ some c → NamedMove k move distance before by v c
   -- following the names comes to the source in fewer than k steps
   pub chain : (v c : ℕ) → distance v ≡ some c → (j : ℕ) × (j < k) × (iterate before j v ≡ some source)
   -- what is not reached has no names

@@ -7,7 +7,7 @@ ghost use lib.Dec.{ltb, leb};
 ghost use lib.ListN.{length, getD};
 ghost use Rattle.definitions.specs.Limits.{nodes, commands};
 ghost use Rattle.search.specs.Search.{largestMove, unreached, rowMove, Tables, Room, Searched};
-ghost use Rattle.search.specs.Parts.{at, labels, storedIf, Blank, Filled, Relaxed, Row, Listing, Grown, Nearest, Brought, Places};
+ghost use Rattle.search.specs.Parts.{at, labels, storedIf, Blank, BlankedTo, Relaxed, Row, Listing, Grown, Nearest, Brought, Places};
 
 // The word for a node or a command that is not there, and for a distance that is not there.
 pub const ABSENT: u32 = 65535;
@@ -37,7 +37,7 @@ fn price_at(price: &[u64], i: usize) -> u64
 // Blanks the first k nodes; the source has distance 0.
 fn fill(k: usize, source: usize, dist: &mut [u64], before: &mut [u32], by: &mut [u32])
     requires { ⌜ (source < k) × Room k (now dist) (now before) (now by) ⌝ }
-    ensures { λ _. ⌜ Filled k source (labels (now (dist .entry)) (now (before .entry)) (now (by .entry)))
+    ensures { λ _. ⌜ BlankedTo k source (labels (now (dist .entry)) (now (before .entry)) (now (by .entry)))
         (labels (now (dist .exit)) (now (before .exit)) (now (by .exit))) ⌝ }
 {
     let mut v = 0usize;

@@ -88,13 +88,6 @@ pub fn by(sheet: &[u32], n: u32) -> u32
     node_row_word(sheet, n, 2)
 }
 
-// The number in 64 bits, in which costs are added.
-pub fn wide(x: u32) -> u64
-    ensures { λ r. ⌜ (r ≡ x) × (r < exitLimit) ⌝ }
-{
-    x as u64
-}
-
 // The own exit cost of node n for command x: 0 for a plain node, and for a refined one what the sheet says of the machine below it. Whether n is
 // plain cannot be foreseen: a word is read in either case, so that no jump is needed.
 pub fn own_exit(book: &[u32], sheet: &[u32], n: u32, x: u32) -> OwnExit
@@ -107,7 +100,7 @@ pub fn own_exit(book: &[u32], sheet: &[u32], n: u32, x: u32) -> OwnExit
     if own == book::BLANK {
         return OwnExit::Never;
     }
-    OwnExit::Costs(wide(own))
+    OwnExit::Costs(book::wide(own))
 }
 
 // Makes v the word at place k of machine m's row; every other word stays.

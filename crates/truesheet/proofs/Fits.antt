@@ -19,12 +19,12 @@ use Rattle.definitions.proofs.Options.{bind-some, none-some, some-same, present
 use Rattle.definitions.proofs.Path.{counting-range}
 use Rattle.definitions.proofs.Local.{Relaxed, Attained, LocalRows, move-parts}
 use Rattle.definitions.proofs.LocalTruth.{local-true, true-local}
-use Rattle.truesheet.specs.Fits.{MachineFits, MachinesFit, StartFits, FilledFits, NodeFits, NodesFit, ChainFits, ChainsFit, NamesFit}
+use Rattle.truesheet.specs.Fits.{MachineRowFits, MachineRowsFit, StartRowFits, FilledFits, NodeRowFits, NodeRowsFit, ChainFits, ChainsFit, NamesFit}
 use Rattle.sheet.proofs.Reading.{ReadRows, rowsOf-read, cost-outside, number-outside}
 
 -- every machine, every node, every chain of names fits (where the nodes do, a reached node with none before it is its machine's start)
 abbrev pub AllFit : Tree → List ℕ → Type 0
-AllFit t ws = MachinesFit t ws × NodesFit t (rowsOf ws) × ChainsFit (rowsOf ws)
+AllFit t ws = MachineRowsFit t ws × NodeRowsFit t (rowsOf ws) × ChainsFit (rowsOf ws)
 
 -- ---- from a true sheet
 
@@ -32,7 +32,7 @@ module _ {t : Tree} (s : Sound t) {ws : List ℕ} (sheet : TrueSheet t ws) where
   local : LocalRows t (rowsOf ws)
   local = true-local s (rowsOf ws) (sheet .rows)
 
-  machine-fits : (m : ℕ) → m < machines → MachineFits t ws m
+  machine-fits : (m : ℕ) → m < machines → MachineRowFits t ws m
   machine-fits m small =
       record {
         mark = sheet .marks m small;
@@ -51,7 +51,7 @@ module _ {t : Tree} (s : Sound t) {ws : List ℕ} (sheet : TrueSheet t ws) where
       record {
         start =
             λ here.
-            subst (StartFits (rowsOf ws)) (some-same st here)
+            subst (StartRowFits (rowsOf ws)) (some-same st here)
             (record { cost = row .start-cost; before = row .start-before; by = row .start-by });
         unreached = row .unreached n own;
         named = λ c cost other. row .named n c own (λ same. other (subst (λ (k : ℕ). t .start m ≡ some k) (cc) st)) cost;
@@ -60,7 +60,7 @@ module _ {t : Tree} (s : Sound t) {ws : List ℕ} (sheet : TrueSheet t ws) where
             record { moves = λ b. relaxed .moves n c x b own cost; exits = λ e free. relaxed .exits n c x e own cost range free };
       }
 
-  node-fits : (n : ℕ) → NodeFits t (rowsOf ws) n
+  node-fits : (n : ℕ) → NodeRowFits t (rowsOf ws) n
   node-fits n =
       record {
         unused = local .blanks .unused-node n;
@@ -203,10 +203,10 @@ module _ {t : Tree} (s : Sound t) {ws : List ℕ} (fits : AllFit t ws) where
       }
 
 -- what stands before a node is a node
-pub names-fit : {t : Tree} → Sound t → {r : Rows} → ReadRows r → NodesFit t r → NamesFit r
+pub names-fit : {t : Tree} → Sound t → {r : Rows} → ReadRows r → NodeRowsFit t r → NamesFit r
 names-fit {t} s {r} read fits n u before = ⊎-elim (λ free. absurd (empty (node .unused free))) used (present (t .owner n))
   where
-    node : NodeFits t r n
+    node : NodeRowFits t r n
     node = fits n (read .before n u before .0)
 
     empty : BlankNode r n → ⊥

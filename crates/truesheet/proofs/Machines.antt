@@ -21,7 +21,7 @@ use Rattle.book.specs.Decides.{Decides}
 use Rattle.book.proofs.Counts.{no-counting, counting-blank}
 use Rattle.book.proofs.Decide.{decides-same, decides-equal}
 use Rattle.book.proofs.Said.{said-is, unsaid-is, unsaid}
-use Rattle.truesheet.specs.Fits.{AddsUp, BlankExit, ExitFits, ExitsFit, AboveStale, MachineFits}
+use Rattle.truesheet.specs.Fits.{AddsUp, BlankExit, ExitFits, ExitsFit, AboveStale, MachineRowFits}
 use Rattle.sheet.proofs.Reading.{ReadRows, is-stale, is-filled, cost-is, blank-is, cost-said, cost-unsaid}
 
 -- ---- the last node of an exit
@@ -152,12 +152,12 @@ module _ {t : Tree} (s : Sound t) (m : ℕ) {h : ℕ} (holder : h ≡ word (t .h
 
 module _ {t : Tree} (s : Sound t) {ws : List ℕ} (m : ℕ) {k : ℕ} (mark : Mark ws m k) where
   -- its mark is 0 or 1
-  pub mark-other : 1 < k → MachineFits t ws m → ⊥
+  pub mark-other : 1 < k → MachineRowFits t ws m → ⊥
   mark-other large fits = ⊎-elim (λ e. omega (arith, mark .word)) (λ e. omega (arith, mark .word)) (fits .mark)
 
   module _ {f : ℕ} (start : f ≡ word (t .start m)) where
     -- a machine that is not in use and not stale is blank
-    pub machine-unused : (b : Bool) → k ≡ 0 → f ≡ absent → Decides b (BlankMachine (rowsOf ws) m) → Decides b (MachineFits t ws m)
+    pub machine-unused : (b : Bool) → k ≡ 0 → f ≡ absent → Decides b (BlankMachine (rowsOf ws) m) → Decides b (MachineRowFits t ws m)
     machine-unused b z free =
         let full = is-filled mark (λ one. omega arith) in
         let none-used = no-start t s m start free in
@@ -172,7 +172,7 @@ module _ {t : Tree} (s : Sound t) {ws : List ℕ} (m : ℕ) {k : ℕ} (mark : Ma
         (λ fits. fits .unused none-used .1)
 
     -- one that is in use and not stale has exits that fit
-    pub machine-filled : (b : Bool) → k ≡ 0 → (f ≡ absent → ⊥) → Decides b (ExitsFit t (rowsOf ws) m) → Decides b (MachineFits t ws m)
+    pub machine-filled : (b : Bool) → k ≡ 0 → (f ≡ absent → ⊥) → Decides b (ExitsFit t (rowsOf ws) m) → Decides b (MachineRowFits t ws m)
     machine-filled b z used =
         let full = is-filled mark (λ one. omega arith) in
         let st = present-word (t .start m) start used in
@@ -188,16 +188,16 @@ module _ {t : Tree} (s : Sound t) {ws : List ℕ} (m : ℕ) {k : ℕ} (mark : Ma
 
     module _ (one : k ≡ 1) where
       -- one that is stale is in use
-      pub stale-unused : f ≡ absent → MachineFits t ws m → ⊥
+      pub stale-unused : f ≡ absent → MachineRowFits t ws m → ⊥
       stale-unused free fits = true-false (is-stale mark one) (fits .unused (no-start t s m start free) .0)
 
       -- below a stale one
-      pub stale-alone : (AboveStale t (rowsOf ws) m → ⊥) → MachineFits t ws m → ⊥
+      pub stale-alone : (AboveStale t (rowsOf ws) m → ⊥) → MachineRowFits t ws m → ⊥
       stale-alone alone fits = alone (fits .stale (is-stale mark one) .1)
 
       -- and blank
       pub machine-stale : (b : Bool) → (f ≡ absent → ⊥) → AboveStale t (rowsOf ws) m → Decides b (BlankMachine (rowsOf ws) m)
-          → Decides b (MachineFits t ws m)
+          → Decides b (MachineRowFits t ws m)
       machine-stale b used above =
           let is = is-stale mark one in
           let st = present-word (t .start m) start used in

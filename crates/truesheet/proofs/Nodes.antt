@@ -23,7 +23,7 @@ use Rattle.book.proofs.Said.{said-is, unsaid-is, unsaid}
 use Rattle.sheet.specs.declared.OwnExit.{OwnExit}
 use Rattle.sheet.specs.declared.OwnExit.the-variants.{Costs, Never}
 use Rattle.sheet.specs.Exits.{Exits}
-use Rattle.truesheet.specs.Fits.{AtMost, AddsUp, StartFits, RelaxedBy, RelaxedAt, FilledFits, NodeFits}
+use Rattle.truesheet.specs.Fits.{AtMost, AddsUp, StartRowFits, RelaxedBy, RelaxedAt, FilledFits, NodeRowFits}
 use Rattle.sheet.proofs.Reading.{ReadRows, is-stale, is-filled, cost-back, cost-is, blank-is, cost-said, cost-unsaid}
 use Rattle.sheet.proofs.Exits.{exits-none, exits-some}
 
@@ -34,14 +34,14 @@ module _ {r : Rows} (read : ReadRows r) (n : ℕ) {c : ℕ} (cost : c ≡ costWo
   pub blank-reached : (c ≡ blank → ⊥) → BlankNode r n → ⊥
   blank-reached other b = other (blank-is cost (b .cost))
 
-  pub start-reached : (c ≡ 0 → ⊥) → StartFits r n → ⊥
+  pub start-reached : (c ≡ 0 → ⊥) → StartRowFits r n → ⊥
   start-reached other fits = other (cost-is (r .cost n) cost (fits .cost))
 
   module _ {u : ℕ} (before : u ≡ word (r .before n)) where
     pub blank-before : (u ≡ absent → ⊥) → BlankNode r n → ⊥
     blank-before other b = other (unsaid-is before (b .before))
 
-    pub start-before : (u ≡ absent → ⊥) → StartFits r n → ⊥
+    pub start-before : (u ≡ absent → ⊥) → StartRowFits r n → ⊥
     start-before other fits = other (unsaid-is before (fits .before))
 
     module _ {x : ℕ} (by : x ≡ word (r .by n)) (no-node : u ≡ absent) where
@@ -57,7 +57,7 @@ module _ {r : Rows} (read : ReadRows r) (n : ℕ) {c : ℕ} (cost : c ≡ costWo
           (λ b. unsaid-is by (b .by))
 
       -- the row of a start node
-      pub start-decides : c ≡ 0 → Decides (eqb x absent) (StartFits r n)
+      pub start-decides : c ≡ 0 → Decides (eqb x absent) (StartRowFits r n)
       start-decides z =
           decides-equal x absent
           (λ a.
@@ -219,10 +219,10 @@ module _ (t : Tree) {r : Rows} (read : ReadRows r) (m n : ℕ) {f : ℕ} (start 
     first = present-word (t .start m) (sym here ∙ start) (λ z. omega arith)
 
     -- the start
-    pub filled-start-other : (StartFits r n → ⊥) → FilledFits t r m n → ⊥
+    pub filled-start-other : (StartRowFits r n → ⊥) → FilledFits t r m n → ⊥
     filled-start-other wrong fits = wrong (fits .start first)
 
-    pub filled-start : (b : Bool) → StartFits r n → Decides b (RelaxedAt t r m n 0) → Decides b (FilledFits t r m n)
+    pub filled-start : (b : Bool) → StartRowFits r n → Decides b (RelaxedAt t r m n 0) → Decides b (FilledFits t r m n)
     filled-start b row =
         decides-same b
         (λ relaxed.
@@ -276,7 +276,7 @@ module _ (t : Tree) {r : Rows} (read : ReadRows r) (m n : ℕ) {f : ℕ} (start 
 
 module _ {t : Tree} (s : Sound t) (n : ℕ) {m : ℕ} (owner : m ≡ word (t .owner n)) where
   -- one that is not in use
-  pub node-unused : (r : Rows) (b : Bool) → m ≡ absent → Decides b (BlankNode r n) → Decides b (NodeFits t r n)
+  pub node-unused : (r : Rows) (b : Bool) → m ≡ absent → Decides b (BlankNode r n) → Decides b (NodeRowFits t r n)
   node-unused r b z =
       let free = no-owner t s n owner z in
       decides-same b
@@ -293,7 +293,7 @@ module _ {t : Tree} (s : Sound t) (n : ℕ) {m : ℕ} (owner : m ≡ word (t .ow
 
     -- one of a stale machine
     pub node-stale : {ws : List ℕ} (b : Bool) {w : ℕ} → Mark ws m w → w ≡ 1 → Decides b (BlankNode (rowsOf ws) n)
-        → Decides b (NodeFits t (rowsOf ws) n)
+        → Decides b (NodeRowFits t (rowsOf ws) n)
     node-stale {ws} b mark one =
         let is = is-stale mark one in
         decides-same b
@@ -307,7 +307,7 @@ module _ {t : Tree} (s : Sound t) (n : ℕ) {m : ℕ} (owner : m ≡ word (t .ow
 
     -- one of another machine
     pub node-filled : {ws : List ℕ} (b : Bool) {w : ℕ} → Mark ws m w → (w ≡ 1 → ⊥) → Decides b (FilledFits t (rowsOf ws) m n)
-        → Decides b (NodeFits t (rowsOf ws) n)
+        → Decides b (NodeRowFits t (rowsOf ws) n)
     node-filled {ws} b mark other =
         let full = is-filled mark other in
         decides-same b

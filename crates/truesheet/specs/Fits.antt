@@ -46,19 +46,19 @@ abbrev pub AboveStale : Tree → Rows → ℕ → Type 0
 AboveStale t r m = (p : ℕ) → parent t m ≡ some p → r .stale p ≡ true
 
 -- the words of machine m fit
-pub record MachineFits (t : Tree) (ws : List ℕ) (m : ℕ) : Type 0 where
+pub record MachineRowFits (t : Tree) (ws : List ℕ) (m : ℕ) : Type 0 where
   pub mark : (machineRowWord ws m 0 ≡ 0) ⊎ (machineRowWord ws m 0 ≡ 1)
   pub unused : t .start m ≡ none → (rowsOf ws .stale m ≡ false) × BlankMachine (rowsOf ws) m
   pub stale : rowsOf ws .stale m ≡ true → BlankMachine (rowsOf ws) m × AboveStale t (rowsOf ws) m
   pub filled : (s : ℕ) → t .start m ≡ some s → rowsOf ws .stale m ≡ false → ExitsFit t (rowsOf ws) m
 
-abbrev pub MachinesFit : Tree → List ℕ → Type 0
-MachinesFit t ws = (m : ℕ) → m < machines → MachineFits t ws m
+abbrev pub MachineRowsFit : Tree → List ℕ → Type 0
+MachineRowsFit t ws = (m : ℕ) → m < machines → MachineRowFits t ws m
 
 -- ---- a node
 
 -- the row of a start node
-pub record StartFits (r : Rows) (n : ℕ) : Type 0 where
+pub record StartRowFits (r : Rows) (n : ℕ) : Type 0 where
   pub cost : r .cost n ≡ some 0
   pub before : r .before n ≡ none
   pub by : r .by n ≡ none
@@ -75,31 +75,31 @@ RelaxedAt t r m n c = (x : ℕ) → x < commands → RelaxedBy t r m n c x
 
 -- the row of node n of machine m, which is not stale, fits
 pub record FilledFits (t : Tree) (r : Rows) (m n : ℕ) : Type 0 where
-  pub start : t .start m ≡ some n → StartFits r n
+  pub start : t .start m ≡ some n → StartRowFits r n
   pub unreached : r .cost n ≡ none → BlankNode r n
   pub named : (c : ℕ) → r .cost n ≡ some c → (t .start m ≡ some n → ⊥) → Named t r m n c
   pub relaxed : (c : ℕ) → r .cost n ≡ some c → RelaxedAt t r m n c
 
 -- the row of node n fits
-pub record NodeFits (t : Tree) (r : Rows) (n : ℕ) : Type 0 where
+pub record NodeRowFits (t : Tree) (r : Rows) (n : ℕ) : Type 0 where
   pub unused : t .owner n ≡ none → BlankNode r n
   pub stale : (m : ℕ) → t .owner n ≡ some m → r .stale m ≡ true → BlankNode r n
   pub filled : (m : ℕ) → t .owner n ≡ some m → r .stale m ≡ false → FilledFits t r m n
 
-abbrev pub NodesFit : Tree → Rows → Type 0
-NodesFit t r = (n : ℕ) → n < nodes → NodeFits t r n
+abbrev pub NodeRowsFit : Tree → Rows → Type 0
+NodeRowsFit t r = (n : ℕ) → n < nodes → NodeRowFits t r n
 
 -- ---- the names that lead to a start
 
 -- from node n, k names lead to a node that has none before it
-pub record Steps (r : Rows) (n k : ℕ) : Type 0 where
+pub record NamesLead (r : Rows) (n k : ℕ) : Type 0 where
   pub first : ℕ
   pub leads : iterate (r .before) k n ≡ some first
   pub ends : r .before first ≡ none
 
 -- and that in few enough steps
 abbrev pub ChainFits : Rows → ℕ → Type 0
-ChainFits r n = (k : ℕ) × (k ≤ longestChain) × Steps r n k
+ChainFits r n = (k : ℕ) × (k ≤ longestChain) × NamesLead r n k
 
 abbrev pub ChainsFit : Rows → Type 0
 ChainsFit r = (n : ℕ) → n < nodes → ChainFits r n
@@ -115,7 +115,7 @@ pub record Chained (sheet : List ℕ) : Type 0 where
 
 -- k is the number of steps from node n, or more than the most where there are too many
 pub record Follows (r : Rows) (n k : ℕ) : Type 0 where
-  pub near : k ≤ longestChain → Steps r n k
+  pub near : k ≤ longestChain → NamesLead r n k
   pub far : longestChain < k → ChainFits r n → ⊥
 
 -- the count of a node that is not counted yet
@@ -125,4 +125,4 @@ uncounted = 65535
 -- the steps of the nodes that are counted
 pub record Counted (r : Rows) (counts : List ℕ) : Type 0 where
   pub size : length counts ≡ nodes
-  pub right : (n : ℕ) → n < nodes → (getD counts n 0 ≡ uncounted → ⊥) → (getD counts n 0 ≤ longestChain) × Steps r n (getD counts n 0)
+  pub right : (n : ℕ) → n < nodes → (getD counts n 0 ≡ uncounted → ⊥) → (getD counts n 0 ≤ longestChain) × NamesLead r n (getD counts n 0)

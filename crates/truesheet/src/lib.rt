@@ -9,11 +9,11 @@ ghost use Rattle.definitions.specs.Sheet.{costOf, rowsOf};
 ghost use Rattle.definitions.specs.Truth.{BlankMachine, BlankNode, Named, Ended, TrueSheet};
 ghost use Rattle.book.specs.Decides.{Decides};
 ghost use Rattle.sheet.specs.Exits.{Readable};
-ghost use Rattle.truesheet.specs.Fits.{AtMost, AddsUp, BlankExit, ExitFits, ExitsFit, AboveStale, MachineFits, MachinesFit};
-ghost use Rattle.truesheet.specs.Fits.{StartFits, RelaxedBy, RelaxedAt, FilledFits, NodeFits, NodesFit};
-ghost use Rattle.truesheet.specs.Fits.{Chained, ChainsFit, Steps, Follows, Counted};
+ghost use Rattle.truesheet.specs.Fits.{AtMost, AddsUp, BlankExit, ExitFits, ExitsFit, AboveStale, MachineRowFits, MachineRowsFit};
+ghost use Rattle.truesheet.specs.Fits.{StartRowFits, RelaxedBy, RelaxedAt, FilledFits, NodeRowFits, NodeRowsFit};
+ghost use Rattle.truesheet.specs.Fits.{Chained, ChainsFit, NamesLead, Follows, Counted};
 use sheet::OwnExit;
-use sheet::wide;
+use book::wide;
 
 // The most steps by names from a node to its machine's start.
 const STEPS: u32 = 255;
@@ -128,7 +128,7 @@ fn above_stale(book: &[u32], sheet: &[u32], m: u32) -> bool
 // Whether the words of machine m fit.
 fn machine_fits(book: &[u32], sheet: &[u32], m: u32) -> bool
     requires { ⌜ Readable (now book) (now sheet) × (m < machines) ⌝ }
-    ensures { λ r. ⌜ Decides r (MachineFits (treeOf (now (book .entry))) (now (sheet .entry)) m) ⌝ }
+    ensures { λ r. ⌜ Decides r (MachineRowFits (treeOf (now (book .entry))) (now (sheet .entry)) m) ⌝ }
 {
     let mark = sheet::stale(sheet, m);
     if 1 < mark {
@@ -152,7 +152,7 @@ fn machine_fits(book: &[u32], sheet: &[u32], m: u32) -> bool
 // Whether the words of every machine fit.
 fn machines_fit(book: &[u32], sheet: &[u32]) -> bool
     requires { ⌜ Readable (now book) (now sheet) ⌝ }
-    ensures { λ r. ⌜ Decides r (MachinesFit (treeOf (now (book .entry))) (now (sheet .entry))) ⌝ }
+    ensures { λ r. ⌜ Decides r (MachineRowsFit (treeOf (now (book .entry))) (now (sheet .entry))) ⌝ }
 {
     for m in 0..book::MACHINES {
         if !machine_fits(book, sheet, m) {
@@ -179,7 +179,7 @@ fn node_blank(sheet: &[u32], n: u32) -> bool
 // Whether the row of node n is that of a start node: cost 0 and no names.
 fn start_fits(sheet: &[u32], n: u32) -> bool
     requires { ⌜ (length (now sheet) ≡ sheetLength) × (n < nodes) ⌝ }
-    ensures { λ r. ⌜ Decides r (StartFits (rowsOf (now (sheet .entry))) n) ⌝ }
+    ensures { λ r. ⌜ Decides r (StartRowFits (rowsOf (now (sheet .entry))) n) ⌝ }
 {
     if sheet::cost(sheet, n) != 0 {
         return false;
@@ -273,7 +273,7 @@ fn filled_fits(book: &[u32], sheet: &[u32], m: u32, n: u32) -> bool
 // Whether the row of node n fits.
 fn node_fits(book: &[u32], sheet: &[u32], n: u32) -> bool
     requires { ⌜ Readable (now book) (now sheet) × (n < nodes) ⌝ }
-    ensures { λ r. ⌜ Decides r (NodeFits (treeOf (now (book .entry))) (rowsOf (now (sheet .entry))) n) ⌝ }
+    ensures { λ r. ⌜ Decides r (NodeRowFits (treeOf (now (book .entry))) (rowsOf (now (sheet .entry))) n) ⌝ }
 {
     let m = book::owner(book, n);
     if m == book::ABSENT {
@@ -288,7 +288,7 @@ fn node_fits(book: &[u32], sheet: &[u32], n: u32) -> bool
 // Whether the row of every node fits.
 fn nodes_fit(book: &[u32], sheet: &[u32]) -> bool
     requires { ⌜ Readable (now book) (now sheet) ⌝ }
-    ensures { λ r. ⌜ Decides r (NodesFit (treeOf (now (book .entry))) (rowsOf (now (sheet .entry)))) ⌝ }
+    ensures { λ r. ⌜ Decides r (NodeRowsFit (treeOf (now (book .entry))) (rowsOf (now (sheet .entry)))) ⌝ }
 {
     for n in 0..book::NODES {
         if !node_fits(book, sheet, n) {
@@ -334,7 +334,7 @@ fn follow(sheet: &[u32], counts: &[u32; 256], n: u32) -> u32
 // Counts node n, which is k steps from its start, and the nodes on the way that are not counted.
 fn settle(sheet: &[u32], counts: &mut [u32; 256], n: u32, k: u32)
     requires { ⌜ Chained (now sheet) × Counted (rowsOf (now sheet)) (now counts) × (n < nodes) × (k ≤ longestChain)
-        × Steps (rowsOf (now sheet)) n k ⌝ }
+        × NamesLead (rowsOf (now sheet)) n k ⌝ }
     ensures { λ r. ⌜ Counted (rowsOf (now (sheet .entry))) (now (counts .exit)) ⌝ }
 {
     let mut v = n;

@@ -32,11 +32,11 @@ use Rattle.definitions.proofs.Opened.{open-sound}
 use Rattle.definitions.proofs.Simple.{states-bound}
 use Rattle.rows.proofs.Open.{open-true}
 use Rattle.rows.proofs.Loaded.{commands-true}
-use Rattle.wholerun.specs.WholeRun.{Ready, AnswersFor, Demanded, Answered}
+use Rattle.wholerun.specs.WholeRun.{PlanReady, AnswersFor, Demanded, RunAnswered}
 use Rattle.wholerun.proofs.TrueWords.{true-words, true-marks}
 
 -- both lists hold this tree, which is sound
-pub record Kept (t : Tree) (book sheet : List ℕ) : Type 0 where
+pub record Carried (t : Tree) (book sheet : List ℕ) : Type 0 where
   pub written : book ≡ encode t
   pub sound : Sound t
   pub filled : TrueSheet t sheet
@@ -44,7 +44,7 @@ pub record Kept (t : Tree) (book sheet : List ℕ) : Type 0 where
 -- ---- an opening
 
 pub opened : (o : Opening) {lent lent-sheet book sheet : List ℕ} → OpenSays (openTree o) lent lent-sheet 0 book sheet
-    → Kept (openTree o) book sheet
+    → Carried (openTree o) book sheet
 opened o (inl refused) = absurd (omega (arith, refused .1 .0))
 opened o (inr (right, done)) =
     record {
@@ -62,7 +62,7 @@ load-refresh t =
     let one = next-takes t refreshAlone (read-whole 0x18 [] {k = 0} refl (omega arith) refl) refl in
     load-taken t refreshAlone one ∙ ap (after refresh 1) (load-end t [] (next-nothing t))
 
-module _ {t : Tree} {book sheet : List ℕ} (kept : Kept t book sheet) where
+module _ {t : Tree} {book sheet : List ℕ} (kept : Carried t book sheet) where
   -- the lists are a well-formed book of this tree
   formed : WellFormed book
   formed = rw (kept .written) (encode-well-formed t (kept .sound))
@@ -80,7 +80,7 @@ module _ {t : Tree} {book sheet : List ℕ} (kept : Kept t book sheet) where
 
   -- it leaves lists that hold the tree after the stream
   pub loaded : (stream : List ℕ) → Bytes stream → {book′ sheet′ : List ℕ} {answer : LoadAnswer}
-      → LoadSays book sheet stream answer book′ sheet′ → Kept (load t stream .tree) book′ sheet′
+      → LoadSays book sheet stream answer book′ sheet′ → Carried (load t stream .tree) book′ sheet′
   loaded stream bytes says =
       let done = does stream says in
       let sound = load-sound (kept .sound) stream bytes in
@@ -91,7 +91,7 @@ module _ {t : Tree} {book sheet : List ℕ} (kept : Kept t book sheet) where
       }
 
   -- a refresh alone leaves the same tree, and nothing stale
-  pub refresh-done : {book′ sheet′ : List ℕ} {answer : LoadAnswer} → LoadSays book sheet refreshAlone answer book′ sheet′ → Ready t book′ sheet′
+  pub refresh-done : {book′ sheet′ : List ℕ} {answer : LoadAnswer} → LoadSays book sheet refreshAlone answer book′ sheet′ → PlanReady t book′ sheet′
   refresh-done says =
       let done = rw (load-refresh t) at (does refreshAlone says) in
       let (mid, fills, same) = done .done in
@@ -109,29 +109,29 @@ pub refreshed-bytes : (streams : List (List ℕ)) → All Bytes streams → All 
 refreshed-bytes [] bytes = ((omega arith, tt), tt)
 refreshed-bytes (stream ∷ streams) bytes = (bytes .0, refreshed-bytes streams (bytes .1))
 
-loads-refreshed : {t : Tree} {book sheet book′ sheet′ : List ℕ} (streams : List (List ℕ)) → Kept t book sheet → All Bytes streams
-    → Loads book sheet (refreshed streams) book′ sheet′ → Ready (expected t (refreshed streams)) book′ sheet′
+loads-refreshed : {t : Tree} {book sheet book′ sheet′ : List ℕ} (streams : List (List ℕ)) → Carried t book sheet → All Bytes streams
+    → Loads book sheet (refreshed streams) book′ sheet′ → PlanReady (expected t (refreshed streams)) book′ sheet′
 unfolding expected
 loads-refreshed {t} {book′ = book′} {sheet′ = sheet′} [] kept bytes (Loads.then says Loads.done) =
-    subst (λ (o : Outcome). Ready (o .tree) book′ sheet′) (sym (load-refresh t)) (refresh-done kept says)
+    subst (λ (o : Outcome). PlanReady (o .tree) book′ sheet′) (sym (load-refresh t)) (refresh-done kept says)
 loads-refreshed (stream ∷ streams) kept bytes (Loads.then says rest) =
     loads-refreshed streams (loaded kept stream (bytes .0) says) (bytes .1) rest
 
 -- from a holding just opened
 pub prepared : (o : Opening) (streams : List (List ℕ)) → All Bytes streams → {lent lent-sheet opened-book opened-sheet book sheet : List ℕ}
     → OpenSays (openTree o) lent lent-sheet 0 opened-book opened-sheet
-    → Loads opened-book opened-sheet (refreshed streams) book sheet → Ready (expected (openTree o) (refreshed streams)) book sheet
+    → Loads opened-book opened-sheet (refreshed streams) book sheet → PlanReady (expected (openTree o) (refreshed streams)) book sheet
 prepared o streams bytes opening calls = loads-refreshed streams (opened o opening) bytes calls
 
 -- ---- the Plan
 
 -- on such lists, with 255 bytes, Plan refuses 6, 7, 14 or 16, or gives a plan
-answers : {t : Tree} → Sound t → {book sheet : List ℕ} → Ready t book sheet → (a b : ℕ) {buffer : List ℕ} → length buffer ≡ planBuffer
+answers : {t : Tree} → Sound t → {book sheet : List ℕ} → PlanReady t book sheet → (a b : ℕ) {buffer : List ℕ} → length buffer ≡ planBuffer
     → {answer : Answer} {buffer′ : List ℕ} → PlanSays book sheet a b buffer answer buffer′ → AnswersFor t a b buffer answer buffer′
 answers {t} sound {book} {sheet} ready a b {buffer} room {answer} {buffer′} says =
     go (rw (held kept) at (plan-on book sheet (formed kept) (true-sheet kept) a b buffer says))
   where
-    kept : Kept t book sheet
+    kept : Carried t book sheet
     kept = record { written = ready .written; sound = sound; filled = ready .filled }
 
     go : InOrder (planRefusals t (rowsOf sheet) a b (length buffer)) (λ k. (answer ≡ refuses k) × (buffer′ ≡ buffer)) (GivesPlan t a b buffer answer buffer′)
@@ -180,8 +180,8 @@ demanded sound a b (inr (range, inr (used, inr (plain, inl refused)))) at-a at-b
 demanded sound a b (inr (range, inr (used, inr (plain, inr (way, done))))) at-a at-b = inl (good done)
 
 -- so the answer is what demand 3 asks
-pub answered : {t : Tree} → Sound t → {book sheet : List ℕ} → Ready t book sheet → (a b : ℕ) {buffer : List ℕ} → length buffer ≡ planBuffer
-    → {answer : Answer} {buffer′ : List ℕ} → PlanSays book sheet a b buffer answer buffer′ → Answered t a b buffer answer book sheet buffer′
+pub answered : {t : Tree} → Sound t → {book sheet : List ℕ} → PlanReady t book sheet → (a b : ℕ) {buffer : List ℕ} → length buffer ≡ planBuffer
+    → {answer : Answer} {buffer′ : List ℕ} → PlanSays book sheet a b buffer answer buffer′ → RunAnswered t a b buffer answer book sheet buffer′
 answered sound ready a b room says =
     let given = answers sound ready a b room says in
     record { ready = ready; answers = given; demanded = demanded sound a b given }

@@ -19,7 +19,7 @@ loads-both (Loads.then says rest) more = Loads.then says (loads-both rest more)
 
 -- i of the streams are loaded, the last up to the offset, on book b and sheet s, which stand now as b′ and s′: what the streams that are left
 -- leave of these is what all of them leave of those
-pub record Left (b s bytes ends b′ s′ : List ℕ) (from i : ℕ) : Type 0 where
+pub record StreamsLeft (b s bytes ends b′ s′ : List ℕ) (from i : ℕ) : Type 0 where
   pub room : i ≤ length ends
   pub book-length : length b′ ≡ length b
   pub sheet-length : length s′ ≡ length s
@@ -28,10 +28,10 @@ pub record Left (b s bytes ends b′ s′ : List ℕ) (from i : ℕ) : Type 0 wh
 
 module _ {b s bytes ends : List ℕ} where
   -- at first all are left
-  pub left-all : Rising 0 ends (length bytes) → Left b s bytes ends b s 0 0
+  pub left-all : Rising 0 ends (length bytes) → StreamsLeft b s bytes ends b s 0 0
   left-all rising = record { room = omega arith; book-length = refl; sheet-length = refl; rising = rising; rest = λ loads. loads }
 
-  module _ {b′ s′ : List ℕ} {from i : ℕ} (left : Left b s bytes ends b′ s′ from i) where
+  module _ {b′ s′ : List ℕ} {from i : ℕ} (left : StreamsLeft b s bytes ends b′ s′ from i) where
     -- where one is left, it stands between the offset and the next end
     pub left-range : i < length ends → (from ≤ getD ends i 0) × (getD ends i 0 ≤ length bytes)
     left-range inside =
@@ -41,7 +41,7 @@ module _ {b s bytes ends : List ℕ} where
     -- and once it is loaded, one fewer is left
     pub left-on : i < length ends → {b″ s″ : List ℕ} {answer : LoadAnswer}
         → LoadSays b′ s′ (take (getD ends i 0 - from) (drop from bytes)) answer b″ s″
-        → length b″ ≡ length b′ → length s″ ≡ length s′ → Left b s bytes ends b″ s″ (getD ends i 0) (i + 1)
+        → length b″ ≡ length b′ → length s″ ≡ length s′ → StreamsLeft b s bytes ends b″ s″ (getD ends i 0) (i + 1)
     left-on inside {b″} {s″} {answer} says same-book same-sheet =
         record {
           room = omega arith;

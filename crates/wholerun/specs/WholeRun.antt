@@ -19,7 +19,7 @@ use Rattle.definitions.specs.Demand.{refreshed, GoodPlan, NoWay}
 use Rattle.wholerun.specs.Ends.{Rising, streamsOf}
 
 -- both lists are ready for Plan: they are those of this tree, with nothing stale
-pub record Ready (t : Tree) (book sheet : List ℕ) : Type 0 where
+pub record PlanReady (t : Tree) (book sheet : List ℕ) : Type 0 where
   pub written : book ≡ encode t
   pub filled : TrueSheet t sheet
   pub fresh : (m : ℕ) → rowsOf sheet .stale m ≡ false
@@ -36,8 +36,8 @@ Demanded t a b answer buffer′ =
     isState t a ≡ true → isState t b ≡ true → GoodPlan t a b answer buffer′ ⊎ NoWay t a b answer
 
 -- what is left of the lists and answered, the station being t
-pub record Answered (t : Tree) (a b : ℕ) (buffer : List ℕ) (answer : Answer) (book′ sheet′ buffer′ : List ℕ) : Type 0 where
-  pub ready : Ready t book′ sheet′
+pub record RunAnswered (t : Tree) (a b : ℕ) (buffer : List ℕ) (answer : Answer) (book′ sheet′ buffer′ : List ℕ) : Type 0 where
+  pub ready : PlanReady t book′ sheet′
   pub answers : AnswersFor t a b buffer answer buffer′
   pub demanded : Demanded t a b answer buffer′
 
@@ -54,4 +54,4 @@ RunSays opening book sheet bytes ends a b buffer run book′ sheet′ buffer′ 
     InOrder (asks 1 (RightLengths book sheet × (length buffer ≡ planBuffer)) ∷ asks 99 (Rising 0 ends (length bytes)) ∷ [])
     (λ k. (run ≡ refused k) × (book′ ≡ book) × (sheet′ ≡ sheet) × (buffer′ ≡ buffer))
     ((answer : Answer) × (run ≡ ran answer)
-    × Answered (expected (openTree opening) (refreshed (streamsOf 0 ends bytes))) a b buffer answer book′ sheet′ buffer′)
+    × RunAnswered (expected (openTree opening) (refreshed (streamsOf 0 ends bytes))) a b buffer answer book′ sheet′ buffer′)

@@ -20,9 +20,6 @@ pub enum WriteAnswer {
     Refused(u32),
 }
 
-// How many levels there are.
-const LEVELS: u32 = 8;
-
 // The most bytes that a stream of Write has.
 const LONGEST: usize = 33918;
 
@@ -169,7 +166,7 @@ fn all_levels(book: &[u32], out: &mut [u8], at: usize) -> usize
     let list = node_levels(book);
     let mut p = at;
     let mut l = 0u32;
-    while l < LEVELS {
+    while l < book::LEVELS {
         l += 1;
         let q = adds(book, &list, l, out, p);
         p = refines(book, &list, l, out, q);

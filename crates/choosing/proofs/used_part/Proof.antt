@@ -86,7 +86,7 @@ next c =
     let e = l .before .before .before .before in
     let inside : l .loop .i < min (length (now (e .args .list))) longestList = omega (arith, f .if1 .left, l .loop .inv .0) in
     let moved = ap stepOf (sym (n .next .given .1)) ∙ g .step-from .ensures in
-    let told = c .wide .ensures in (
+    let told = c .wide .ensures .0 in (
       subst (λ (z : ℕ). Upto (treeOf (now (e .args .book))) (e .args .a) (e .args .b) (now (e .args .list)) (n .next .given .0 .0) (l .loop .i + 1) (l .loop .cost + z)) (sym told)
           (upto-moves (e .pre .0 .sound) (l .loop .inv .1) (f .before .loop-test .taken) inside (k .before .command-at .result) (k .before .command-at .ensures) (k .if2 .left) moved),
       omega (

@@ -12,7 +12,7 @@ use lib.ListN.{length}
 use Rattle.definitions.specs.Book.{treeOf}
 use Rattle.definitions.specs.Sheet.{rowsOf}
 use Rattle.plantheory.specs.Expand.{nodePart}
-use Rattle.expanding.specs.Expanding.{leavePart, stepsPart, Written}
+use Rattle.expanding.specs.Expanding.{leavePart, stepsPart, CommandsWritten}
 use Rattle.expanding.proofs.Tracing.{steps-down, steps-over}
 use Rattle.expanding.proofs.Opening.{part-flat, opens-on}
 use Rattle.expanding.proofs.Writing.{Onward, onward-none, onward-length, onward-room, onward-more, onward-done, leave-shut, leave-room}
@@ -24,7 +24,7 @@ use Rattle.expanding.proofs.expand_path.Kinds as expand-path-kinds
 use Rattle.expanding.proofs.+expand_node+expand_path.Lts-expand_path as expand-path-lts
 use Rattle.expanding.proofs.open_node.Reads as open-node-reads
 use Rattle.expanding.proofs.put.Reads as put-reads
-use Rattle.expanding.proofs.word.Reads as word-reads
+use Rattle.book.proofs.word.Reads as word-reads
 use Rattle.expanding.proofs.+expand_node+expand_path.{statement}
 use Rattle.expanding.proofs.+expand_node+expand_path.Tie.{close}
 
@@ -73,7 +73,7 @@ returns : (t : ℕ) → expand-node-lts.Need-returns (node-calls t) (expand-node
 returns t c =
     let at-put = c .before .before in
     let entry = at-put .before .before .before .before .before .before in
-    subst (Written _ _ _ _)
+    subst (CommandsWritten _ _ _ _)
     (leave-shut (node-part entry) (entry .args .n) (entry .args .x) (part-flat (entry .args .depth) _ _ _ _ (at-put .before .before .if1 .taken)))
     (at-put .put .ensures)
 
@@ -103,7 +103,7 @@ returns-2 t c =
     let shut = at-put .before .before in
     let at-open = shut .before .before .before in
     let entry = at-open .before .before .before .before .before .before .before in
-    subst (Written _ _ _ _)
+    subst (CommandsWritten _ _ _ _)
     (leave-shut (node-part entry) (entry .args .n) (entry .args .x) (at-open .open-node .ensures .shut (shut .if2 .taken) (entry .args .depth)))
     (at-put .put2 .ensures)
 
@@ -139,7 +139,7 @@ returns-3 t c =
     let at-open = there .before .before .before in
     let split = at-open .before .before .before in
     let entry = split .before .before .before .before in
-    subst (Written _ _ _ _) (opens-on (at-open .open-node .ensures) (there .if2 .left) (entry .args .depth) (split .if1 .left))
+    subst (CommandsWritten _ _ _ _) (opens-on (at-open .open-node .ensures) (there .if2 .left) (entry .args .depth) (split .if1 .left))
     (at-path .expand-path .ensures)
 
 -- ---- a path

@@ -3,7 +3,7 @@ use mathlib.Core.Path.{refl, ap, subst}
 use native.Mathlib.Omega.{arith}
 use borrow.Author.Needs.{needs}
 use lib.ListN.{length}
-use Rattle.expanding.specs.Expanding.{Written}
+use Rattle.expanding.specs.Expanding.{CommandsWritten}
 use Rattle.expanding.proofs.Tracing.{steps-none}
 use Rattle.expanding.proofs.Writing.{written-front}
 use Rattle.expanding.proofs.Short.{plan-steps}
@@ -53,7 +53,7 @@ returns c =
     let at-trace = at-path .before .before .before .before .before .before in
     let entry = at-trace .before .before .before .before .before .before .before .before in
     let (same, short) = plan-steps (entry .args .before .now) (entry .args .by .now) (entry .pre .0) (at-trace .trace .ensures) in
-    written-front (subst (Written _ _ _ _) same (at-path .expand-path .ensures)) (entry .pre .4)
+    written-front (subst (CommandsWritten _ _ _ _) same (at-path .expand-path .ensures)) (entry .pre .4)
 
 pub expand-spec : {M : Type 1} → statement M
 expand-spec =

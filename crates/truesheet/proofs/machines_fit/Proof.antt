@@ -7,12 +7,12 @@ use borrow.Author.Needs.{needs}
 use Rattle.definitions.specs.Limits.{machines}
 use Rattle.definitions.specs.Book.{treeOf}
 use Rattle.book.proofs.Decide.{passed, refused}
-use Rattle.truesheet.specs.Fits.{MachineFits}
+use Rattle.truesheet.specs.Fits.{MachineRowFits}
 use Rattle.truesheet.proofs.machines_fit.Statement.{statement}
 use Rattle.truesheet.proofs.machines_fit.Tie as tie
 
 abbrev Inv-loop : tie.InvT-loop
-Inv-loop book sheet m₀ m = (m ≤ machines) × ((k : ℕ) → k < m → MachineFits (treeOf book) sheet k)
+Inv-loop book sheet m₀ m = (m ≤ machines) × ((k : ℕ) → k < m → MachineRowFits (treeOf book) sheet k)
 
 abbrev μ-loop : tie.MeasureT-loop
 μ-loop book sheet m₀ m = machines - m
@@ -20,7 +20,7 @@ abbrev μ-loop : tie.MeasureT-loop
 loop-holds : tie.Need-loop-holds Inv-loop μ-loop
 loop-holds c =
     let s = c .before .before in
-    (omega arith, below-none (MachineFits (treeOf (now (s .args .book))) (now (s .args .sheet))))
+    (omega arith, below-none (MachineRowFits (treeOf (now (s .args .book))) (now (s .args .sheet))))
 
 machine-fits-requires : tie.Need-machine-fits-requires Inv-loop μ-loop
 machine-fits-requires c κs = search needs
@@ -40,7 +40,7 @@ loop-again : tie.Need-loop-again Inv-loop μ-loop
 loop-again c =
     let l = c .before .before .before in
     let s = l .before .before .before in
-    let P = MachineFits (treeOf (now (s .args .book))) (now (s .args .sheet)) in (
+    let P = MachineRowFits (treeOf (now (s .args .book))) (now (s .args .sheet)) in (
       omega arith,
       below-more P (l .loop .m) (l .loop .inv .1)
           (passed (c .before .machine-fits .result) (c .before .machine-fits .ensures) (c .if1 .left)),

@@ -8,12 +8,12 @@ use Rattle.definitions.specs.Limits.{nodes}
 use Rattle.definitions.specs.Book.{treeOf}
 use Rattle.definitions.specs.Sheet.{rowsOf}
 use Rattle.book.proofs.Decide.{passed, refused}
-use Rattle.truesheet.specs.Fits.{NodeFits}
+use Rattle.truesheet.specs.Fits.{NodeRowFits}
 use Rattle.truesheet.proofs.nodes_fit.Statement.{statement}
 use Rattle.truesheet.proofs.nodes_fit.Tie as tie
 
 abbrev Inv-loop : tie.InvT-loop
-Inv-loop book sheet n₀ n = (n ≤ nodes) × ((k : ℕ) → k < n → NodeFits (treeOf book) (rowsOf sheet) k)
+Inv-loop book sheet n₀ n = (n ≤ nodes) × ((k : ℕ) → k < n → NodeRowFits (treeOf book) (rowsOf sheet) k)
 
 abbrev μ-loop : tie.MeasureT-loop
 μ-loop book sheet n₀ n = nodes - n
@@ -21,7 +21,7 @@ abbrev μ-loop : tie.MeasureT-loop
 loop-holds : tie.Need-loop-holds Inv-loop μ-loop
 loop-holds c =
     let s = c .before .before in
-    (omega arith, below-none (NodeFits (treeOf (now (s .args .book))) (rowsOf (now (s .args .sheet)))))
+    (omega arith, below-none (NodeRowFits (treeOf (now (s .args .book))) (rowsOf (now (s .args .sheet)))))
 
 node-fits-requires : tie.Need-node-fits-requires Inv-loop μ-loop
 node-fits-requires c κs = search needs
@@ -41,7 +41,7 @@ loop-again : tie.Need-loop-again Inv-loop μ-loop
 loop-again c =
     let l = c .before .before .before in
     let s = l .before .before .before in
-    let P = NodeFits (treeOf (now (s .args .book))) (rowsOf (now (s .args .sheet))) in (
+    let P = NodeRowFits (treeOf (now (s .args .book))) (rowsOf (now (s .args .sheet))) in (
       omega arith,
       below-more P (l .loop .n) (l .loop .inv .1)
           (passed (c .before .node-fits .result) (c .before .node-fits .ensures) (c .if1 .left)),

@@ -4,14 +4,14 @@ use Prim.Native.Nat.{_≤_, _<_}
 use native.Mathlib.Omega.{arith}
 use Rattle.definitions.specs.Limits.{nodes, longestChain}
 use Rattle.definitions.specs.Sheet.{rowsOf}
-use Rattle.truesheet.specs.Fits.{Steps, Counted}
+use Rattle.truesheet.specs.Fits.{NamesLead, Counted}
 use Rattle.truesheet.proofs.Chains.{steps-down, counted-more}
 use Rattle.truesheet.proofs.settle.Statement.{statement}
 use Rattle.truesheet.proofs.settle.Tie as tie
 
 abbrev Inv-loop : tie.InvT-loop
 Inv-loop sheet counts₀ n k v₀ left₀ counts v left =
-    (v < nodes) × (left ≤ longestChain) × Counted (rowsOf sheet) counts × Steps (rowsOf sheet) v left
+    (v < nodes) × (left ≤ longestChain) × Counted (rowsOf sheet) counts × NamesLead (rowsOf sheet) v left
 
 abbrev μ-loop : tie.MeasureT-loop
 μ-loop sheet counts₀ n k v₀ left₀ counts v left = left

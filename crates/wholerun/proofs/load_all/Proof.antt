@@ -3,12 +3,12 @@ use Prim.Native.Nat.{_-_}
 use native.Mathlib.Omega.{arith}
 use lib.ListN.{length}
 use borrow.Author.Needs.{needs}
-use Rattle.wholerun.proofs.Streams.{Left, left-all, left-range, left-on, left-none}
+use Rattle.wholerun.proofs.Streams.{StreamsLeft, left-all, left-range, left-on, left-none}
 use Rattle.wholerun.proofs.load_all.Statement.{statement}
 use Rattle.wholerun.proofs.load_all.Tie as tie
 
 abbrev Inv-loop : tie.InvT-loop
-Inv-loop book₀ sheet₀ bytes ends from₀ i₀ book sheet from i = Left book₀ sheet₀ bytes ends book sheet from i
+Inv-loop book₀ sheet₀ bytes ends from₀ i₀ book sheet from i = StreamsLeft book₀ sheet₀ bytes ends book sheet from i
 
 abbrev μ-loop : tie.MeasureT-loop
 μ-loop book₀ sheet₀ bytes ends from₀ i₀ book sheet from i = length ends - i
