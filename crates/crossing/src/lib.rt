@@ -18,8 +18,8 @@ ghost use Rattle.crossing.specs.Crossing.{Crossable, Crossed};
 ghost use Rattle.crossing.specs.Parts.{isOpen, MachinesOpened, inOpened, OpenedFor, NodeList, Itself, LandedAbove, Landings};
 ghost use Rattle.crossing.specs.Parts.{finds, leaves, landMove, UpRoom, OwnerRow, MachineRow, RootRow, HandedTo, HandedAbove, Prepared};
 ghost use Rattle.crossing.specs.Parts.{InNodes, openMove};
-use sheet::OwnExit;
 use book::wide;
+use sheet::OwnExit;
 
 // A move: the node where it leads, ABSENT where there is none, and what it costs.
 struct Move {

@@ -51,7 +51,11 @@ fn print_input(book: &mut [u32; book::BOOK], sheet: &mut [u32; sheet::SHEET], in
 
 // A whole session: opens fresh and prints the lines for an input, of which 65,536 bytes are read; how many lines there are. Book and sheet
 // are left as the last turn leaves them.
-pub fn print_session(book: &mut [u32; book::BOOK], sheet: &mut [u32; sheet::SHEET], input: &[u8]) -> usize
+pub fn print_session(
+    book: &mut [u32; book::BOOK],
+    sheet: &mut [u32; sheet::SHEET],
+    input: &[u8],
+) -> usize
     ensures { λ r. ⌜ SessionMade (now (input .entry)) r (now (book .exit)) (now (sheet .exit)) ⌝ }
 {
     if INPUT < input.len() {

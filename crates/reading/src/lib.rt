@@ -161,7 +161,7 @@ pub fn command_at(stream: &[u8], taken: usize) -> Read
     }
     let op = byte(stream, taken);
     let Operands::Bytes(size) = operand_length(op) else {
-        return Read::Refused(5);
+        return Read::Refused(5); // an unknown opcode
     };
     if stream.len() - taken <= size {
         return Read::Refused(4);

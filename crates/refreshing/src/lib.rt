@@ -18,8 +18,8 @@ ghost use Rattle.refreshing.specs.Parts.{distances, largestDistance, Lea
 ghost use Rattle.refreshing.specs.Parts.{ExitWritten, ExitsWritten};
 ghost use Rattle.refreshing.specs.Refresh.{machineLevel, MachineLevels, Fillable, Filled, FreshBelow, StepFilled, FilledBelow};
 ghost use Rattle.refreshing.specs.Refresh.{Refreshes};
-use sheet::OwnExit;
 use book::wide;
+use sheet::OwnExit;
 
 // An entry of the tables: the place where a move leads, ABSENT where there is no move, and what it costs.
 struct Entry {

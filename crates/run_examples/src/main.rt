@@ -1,7 +1,8 @@
 // The whole run of demand 3, run: openings and lists of streams, refused commands among them, with the plan after them; and each refusal.
 use libc::STDOUT_FILENO;
 use planning::PlanAnswer;
-use wholerun::{Opening, RunAnswer};
+use wholerun::Opening;
+use wholerun::RunAnswer;
 
 // Writes a space and a number.
 fn number(n: u64) {
@@ -129,7 +130,14 @@ fn main() {
         1,
         2,
     );
-    run(b"ends that fall:", Opening::Fresh, b"\x18\x18", &[2, 1], 0, 0);
+    run(
+        b"ends that fall:",
+        Opening::Fresh,
+        b"\x18\x18",
+        &[2, 1],
+        0,
+        0,
+    );
     run(
         b"a last end before the last byte:",
         Opening::Fresh,

@@ -12,8 +12,8 @@ ghost use Rattle.sheet.specs.Exits.{Readable};
 ghost use Rattle.truesheet.specs.Fits.{AtMost, AddsUp, BlankExit, ExitFits, ExitsFit, AboveStale, MachineRowFits, MachineRowsFit};
 ghost use Rattle.truesheet.specs.Fits.{StartRowFits, RelaxedBy, RelaxedAt, FilledFits, NodeRowFits, NodeRowsFit};
 ghost use Rattle.truesheet.specs.Fits.{Chained, ChainsFit, NamesLead, Follows, Counted};
-use sheet::OwnExit;
 use book::wide;
+use sheet::OwnExit;
 
 // The most steps by names from a node to its machine's start.
 const STEPS: u32 = 255;

@@ -18,19 +18,19 @@ use Rattle.wholerun.proofs.whole_run.Tie as tie
 returns : tie.Need-returns
 returns c =
     let e = c .before .before .before .before .before .before in
-    says-length (openingOf (e .args .opening)) (now (e .args .book)) (now (e .args .sheet)) (now (e .args .bytes)) (now (e .args .ends)) (e .args .a) (e .args .b) (now (e .args .buffer)) 
+    says-length (openingOf (e .args .opening)) (now (e .args .book)) (now (e .args .sheet)) (now (e .args .bytes)) (now (e .args .ends)) (e .args .a) (e .args .b) (now (e .args .buffer))
     (λ right. c .if1 .taken (right .0 .0))
 
 returns-2 : tie.Need-returns-2
 returns-2 c =
     let e = c .before .before .before .before .before .before .before in
-    says-length (openingOf (e .args .opening)) (now (e .args .book)) (now (e .args .sheet)) (now (e .args .bytes)) (now (e .args .ends)) (e .args .a) (e .args .b) (now (e .args .buffer)) 
+    says-length (openingOf (e .args .opening)) (now (e .args .book)) (now (e .args .sheet)) (now (e .args .bytes)) (now (e .args .ends)) (e .args .a) (e .args .b) (now (e .args .buffer))
     (λ right. c .if2 .taken (right .0 .1))
 
 returns-3 : tie.Need-returns-3
 returns-3 c =
     let e = c .before .before .before .before .before .before .before .before in
-    says-length (openingOf (e .args .opening)) (now (e .args .book)) (now (e .args .sheet)) (now (e .args .bytes)) (now (e .args .ends)) (e .args .a) (e .args .b) (now (e .args .buffer)) 
+    says-length (openingOf (e .args .opening)) (now (e .args .book)) (now (e .args .sheet)) (now (e .args .bytes)) (now (e .args .ends)) (e .args .a) (e .args .b) (now (e .args .buffer))
     (λ right. c .if3 .taken (right .1))
 
 well-ended-requires : tie.Need-well-ended-requires
