@@ -39,7 +39,7 @@ fn limit(n: usize) -> usize
 }
 
 // The used part of a list from state a up to its first arrival at b.
-pub fn used_part(book: &[u32], a: u32, b: u32, list: &[u8]) -> Part
+fn used_part(book: &[u32], a: u32, b: u32, list: &[u8]) -> Part
     requires { ⌜ WellFormed (now book) × UsedNode (treeOf (now book)) a ⌝ }
     ensures { λ r. ⌜ usedIn r ≡ usedOf (treeOf (now (book .entry))) a b (now (list .entry)) ⌝ }
 {

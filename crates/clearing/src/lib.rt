@@ -15,7 +15,7 @@ pub fn drop_node(book: &mut [u32], sheet: &mut [u32], n: u32)
 }
 
 // Leaves the record, the row and the mark of machine m as an unused machine has them.
-pub fn drop_machine(book: &mut [u32], sheet: &mut [u32], m: u32)
+fn drop_machine(book: &mut [u32], sheet: &mut [u32], m: u32)
     requires { ⌜ Sized (now book) (now sheet) × (m < machines) ⌝ }
     ensures { λ r. ⌜ MachineDropped (now (book .entry)) (now (sheet .entry)) (now (book .exit)) (now (sheet .exit)) m ⌝ }
 {

@@ -154,7 +154,7 @@ fn any_lowest(book: &[u32]) -> bool
 
 // The refusal of begin, 0 where it is taken. Of this and the commands below: 6 (number out of range), 7 (machine or node not in use),
 // 8 (new number in use), 9 (already refined), 10 (a start node), 11 (target in another machine), 12 (over 8 levels).
-pub fn judge_begin(m: u32, n: u32) -> u32
+fn judge_begin(m: u32, n: u32) -> u32
     ensures { λ r. ⌜ ((t : Tree) → r ≡ refusal t (edit (begin m n))) ⌝ }
 {
     if place_out_of_range(m, n) {
@@ -164,7 +164,7 @@ pub fn judge_begin(m: u32, n: u32) -> u32
 }
 
 // The refusal of add.
-pub fn judge_add(book: &[u32], m: u32, n: u32) -> u32
+fn judge_add(book: &[u32], m: u32, n: u32) -> u32
     requires { ⌜ WellFormed (now book) ⌝ }
     ensures { λ r. ⌜ r ≡ refusal (treeOf (now (book .entry))) (edit (add m n)) ⌝ }
 {
@@ -181,7 +181,7 @@ pub fn judge_add(book: &[u32], m: u32, n: u32) -> u32
 }
 
 // The refusal of refine.
-pub fn judge_refine(book: &[u32], n: u32, m: u32, s: u32) -> u32
+fn judge_refine(book: &[u32], n: u32, m: u32, s: u32) -> u32
     requires { ⌜ WellFormed (now book) ⌝ }
     ensures { λ r. ⌜ r ≡ refusal (treeOf (now (book .entry))) (edit (refine n m s)) ⌝ }
 {
@@ -204,7 +204,7 @@ pub fn judge_refine(book: &[u32], n: u32, m: u32, s: u32) -> u32
 }
 
 // The refusal of remove.
-pub fn judge_remove(book: &[u32], n: u32) -> u32
+fn judge_remove(book: &[u32], n: u32) -> u32
     requires { ⌜ WellFormed (now book) ⌝ }
     ensures { λ r. ⌜ r ≡ refusal (treeOf (now (book .entry))) (edit (remove n)) ⌝ }
 {
@@ -221,7 +221,7 @@ pub fn judge_remove(book: &[u32], n: u32) -> u32
 }
 
 // The refusal of arrow.
-pub fn judge_arrow(book: &[u32], n: u32, x: u32, v: u32) -> u32
+fn judge_arrow(book: &[u32], n: u32, x: u32, v: u32) -> u32
     requires { ⌜ WellFormed (now book) ⌝ }
     ensures { λ r. ⌜ ((c : ℕ) → r ≡ refusal (treeOf (now (book .entry))) (edit (arrow n x v c))) ⌝ }
 {
@@ -238,7 +238,7 @@ pub fn judge_arrow(book: &[u32], n: u32, x: u32, v: u32) -> u32
 }
 
 // The refusal of clear.
-pub fn judge_clear(book: &[u32], n: u32, x: u32) -> u32
+fn judge_clear(book: &[u32], n: u32, x: u32) -> u32
     requires { ⌜ WellFormed (now book) ⌝ }
     ensures { λ r. ⌜ r ≡ refusal (treeOf (now (book .entry))) (edit (clear n x)) ⌝ }
 {
@@ -252,7 +252,7 @@ pub fn judge_clear(book: &[u32], n: u32, x: u32) -> u32
 }
 
 // The refusal of start.
-pub fn judge_start(book: &[u32], n: u32) -> u32
+fn judge_start(book: &[u32], n: u32) -> u32
     requires { ⌜ WellFormed (now book) ⌝ }
     ensures { λ r. ⌜ r ≡ refusal (treeOf (now (book .entry))) (edit (start n)) ⌝ }
 {
@@ -266,7 +266,7 @@ pub fn judge_start(book: &[u32], n: u32) -> u32
 }
 
 // The refusal of crown.
-pub fn judge_crown(book: &[u32], m: u32, n: u32) -> u32
+fn judge_crown(book: &[u32], m: u32, n: u32) -> u32
     requires { ⌜ WellFormed (now book) ⌝ }
     ensures { λ r. ⌜ r ≡ refusal (treeOf (now (book .entry))) (edit (crown m n)) ⌝ }
 {

@@ -27,7 +27,7 @@ pub struct Loaded {
 }
 
 // Does a command that is not refused.
-pub fn do_command(book: &mut [u32], sheet: &mut [u32], command: Command)
+fn do_command(book: &mut [u32], sheet: &mut [u32], command: Command)
     requires { ⌜ Asked (now book) (now sheet) command ⌝ }
     ensures { λ r. ⌜ Done (now (book .entry)) (now (sheet .entry)) (commandOf command) (now (book .exit)) (now (sheet .exit)) ⌝ }
 {
@@ -73,7 +73,7 @@ pub fn take_next(book: &mut [u32], sheet: &mut [u32], stream: &[u8], taken: usiz
 }
 
 // Does a stream's commands up to its end or the first that is refused.
-pub fn run_stream(book: &mut [u32], sheet: &mut [u32], stream: &[u8]) -> Loaded
+fn run_stream(book: &mut [u32], sheet: &mut [u32], stream: &[u8]) -> Loaded
     requires { ⌜ WellFormed (now book) × TrueSheet (treeOf (now book)) (now sheet) ⌝ }
     ensures { λ r. ⌜ LoadDone (treeOf (now (book .entry))) (rowsOf (now (sheet .entry))) (load (treeOf (now (book .entry))) (now (stream .entry)))
         (answerOf r) (now (book .exit)) (now (sheet .exit)) ⌝ }

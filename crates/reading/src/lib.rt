@@ -90,7 +90,7 @@ pub fn operand_pair(stream: &[u8], at: usize, k: usize) -> u32
 }
 
 // How many bytes of operands an opcode has.
-pub fn operand_length(op: u32) -> Operands
+fn operand_length(op: u32) -> Operands
     ensures { λ r. ⌜ operandsOf r ≡ operandLength op ⌝ }
 {
     match op {

@@ -23,7 +23,7 @@ pub enum OwnExit {
 }
 
 // The word at place k of machine m's row.
-pub fn machine_row_word(sheet: &[u32], m: u32, k: u32) -> u32
+fn machine_row_word(sheet: &[u32], m: u32, k: u32) -> u32
     requires { ⌜ (length (now sheet) ≡ sheetLength) × (m < machines) × (k < machineRowLength) ⌝ }
     ensures { λ r. ⌜ r ≡ machineRowWord (now (sheet .entry)) m k ⌝ }
 {
@@ -32,7 +32,7 @@ pub fn machine_row_word(sheet: &[u32], m: u32, k: u32) -> u32
 }
 
 // The word at place k of node n's row.
-pub fn node_row_word(sheet: &[u32], n: u32, k: u32) -> u32
+fn node_row_word(sheet: &[u32], n: u32, k: u32) -> u32
     requires { ⌜ (length (now sheet) ≡ sheetLength) × (n < nodes) × (k < nodeRowLength) ⌝ }
     ensures { λ r. ⌜ r ≡ nodeRow (rowsOf (now (sheet .entry))) n k ⌝ }
 {
@@ -104,7 +104,7 @@ pub fn own_exit(book: &[u32], sheet: &[u32], n: u32, x: u32) -> OwnExit
 }
 
 // Makes v the word at place k of machine m's row; every other word stays.
-pub fn set_machine_row_word(sheet: &mut [u32], m: u32, k: u32, v: u32)
+fn set_machine_row_word(sheet: &mut [u32], m: u32, k: u32, v: u32)
     requires { ⌜ (length (now sheet) ≡ sheetLength) × (m < machines) × (k < machineRowLength) ⌝ }
     ensures { λ r. ⌜ now (sheet .exit) ≡ set (now (sheet .entry)) (m * machineRowLength + k) v ⌝ }
 {
@@ -113,7 +113,7 @@ pub fn set_machine_row_word(sheet: &mut [u32], m: u32, k: u32, v: u32)
 }
 
 // Makes v the word at place k of node n's row; every other word stays.
-pub fn set_node_row_word(sheet: &mut [u32], n: u32, k: u32, v: u32)
+fn set_node_row_word(sheet: &mut [u32], n: u32, k: u32, v: u32)
     requires { ⌜ (length (now sheet) ≡ sheetLength) × (n < nodes) × (k < nodeRowLength) ⌝ }
     ensures { λ r. ⌜ Leaves (now (sheet .entry)) (now (sheet .exit)) (withNodeRow (rowsOf (now (sheet .entry))) n k v) ⌝ }
 {

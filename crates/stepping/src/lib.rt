@@ -28,7 +28,7 @@ pub enum StepAnswer {
 }
 
 // The lowest node, s itself first and then the nodes that hold it, that has a transition for x.
-pub fn climb(book: &[u32], s: u32, x: u32) -> Climbed
+fn climb(book: &[u32], s: u32, x: u32) -> Climbed
     requires { ⌜ WellFormed (now book) × UsedNode (treeOf (now book)) s × (x < commands) ⌝ }
     ensures { λ r. ⌜ climbOf r ≡ climb (treeOf (now (book .entry))) (treeOf (now (book .entry)) .root) s x ⌝ }
 {
@@ -51,7 +51,7 @@ pub fn climb(book: &[u32], s: u32, x: u32) -> Climbed
 }
 
 // The state where node n is entered.
-pub fn enter(book: &[u32], n: u32) -> u32
+fn enter(book: &[u32], n: u32) -> u32
     requires { ⌜ WellFormed (now book) × UsedNode (treeOf (now book)) n ⌝ }
     ensures { λ r. ⌜ enter (treeOf (now (book .entry))) n ≡ some r ⌝ }
 {

@@ -215,7 +215,7 @@ fn put_stream(book: &[u32], out: &mut [u8]) -> usize
 }
 
 // The length of the stream.
-pub fn stream_length(book: &[u32]) -> usize
+fn stream_length(book: &[u32]) -> usize
     requires { ⌜ WellFormed (now book) ⌝ }
     ensures { λ r. ⌜ r ≡ length (written (treeOf (now (book .entry)))) ⌝ }
 {
@@ -238,7 +238,7 @@ fn has_room(book: &[u32], len: usize) -> bool
 }
 
 // Stores the stream at the front of a list that has room for it; the stream's length. The rest of the list is untouched.
-pub fn write_stream(book: &[u32], out: &mut [u8]) -> usize
+fn write_stream(book: &[u32], out: &mut [u8]) -> usize
     requires { ⌜ WellFormed (now book) × (length (written (treeOf (now book))) ≤ length (now out)) ⌝ }
     ensures { λ r. ⌜ (r ≡ length (written (treeOf (now (book .entry)))))
         × (now (out .exit) ≡ written (treeOf (now (book .entry))) ++ drop (length (written (treeOf (now (book .entry))))) (now (out .entry))) ⌝ }
