@@ -27,7 +27,7 @@ struct Move {
     price: u64,
 }
 
-// MachinesOpened the machine of node s and all above it: their words become 1, the others stay.
+// Opens the machine of node s and all above it: their words become 1, the others stay.
 fn open_above(book: &[u32], s: u32, opened: &mut [u32])
     requires { ⌜ WellFormed (now book) × UsedNode (treeOf (now book)) s × (length (now opened) ≡ machines) ⌝ }
     ensures { λ _. ⌜ MachinesOpened (treeOf (now (book .entry))) s (now (opened .entry)) (now (opened .exit)) ⌝ }

@@ -16,7 +16,7 @@ use Rattle.definitions.specs.Limits.{nodes, largestCost, largestPlanCost
 use Rattle.definitions.specs.Tree.{Tree, Transition, Sound, isState, states, path, pathF, over}
 use Rattle.definitions.specs.Step.{enter, startState, counting, leaving, leavingOf, Climb, found, passed, past, firstOf, look, climb, Arrival, follow, stepIn, step, runIn, Moves, passes}
 use Rattle.definitions.specs.Costs.{LeastCost, ExitCost}
-use Rattle.definitions.proofs.Options.{bind-some, none-some, some-same, true-false, and-true, equal-or-not, isAt-some, isSome-true}
+use Rattle.definitions.proofs.Options.{bind-some, none-some, some-same, and-true, equal-or-not, isAt-some, isSome-true}
 use Rattle.definitions.proofs.Path.{Deep, at-root, under, root-holder, deep, path-on, enter-enters, enters-state, counting-is, leaving-free, Inside, own, deeper}
 use Rattle.definitions.proofs.Runs.{onto, run-first, run-cons, run-nil}
 use Rattle.definitions.proofs.Exits.{ExitParts, exit-parts, parts-exit}

@@ -3,7 +3,7 @@
 ghost use mathlib.Core.Path.{_≡_};
 ghost use mathlib.Core.List.{[], _∷_, _++_};
 ghost use Prim.Native.Nat.{_+_, _≤_, _<_};
-ghost use lib.ListN.{length, getD, set, drop};
+ghost use lib.ListN.{length, set, drop};
 ghost use Rattle.definitions.specs.Limits.{nodes, commands, sheetLength, longestChain};
 ghost use Rattle.definitions.specs.Book.{word, treeOf};
 ghost use Rattle.definitions.specs.Sheet.{rowsOf};
@@ -69,7 +69,7 @@ fn trace_rows(sheet: &[u32], n: u32, j: u32, left: &mut [u32], given: &mut [u32]
     }
 }
 
-// NodeOpens node n: the steps of the path by which the machine below it is left by command x; how many there are, 0 where there is no path.
+// Opens node n: the steps of the path by which the machine below it is left by command x; how many there are, 0 where there is no path.
 fn open_node(
     book: &[u32],
     sheet: &[u32],

@@ -2,7 +2,7 @@
 // machine stand at places 0 to k - 1, and the least costs over them are one search's.
 ghost use mathlib.Core.Path.{_≡_};
 ghost use Prim.Native.Nat.{ℕ, _+_, _-_, _≤_, _<_};
-ghost use lib.ListN.{length, getD};
+ghost use lib.ListN.{length};
 ghost use Rattle.definitions.specs.Limits.{machines, nodes, commands, sheetLength};
 ghost use Rattle.definitions.specs.Book.{number, treeOf, WellFormed};
 ghost use Rattle.definitions.specs.Sheet.{costOf, rowsOf};

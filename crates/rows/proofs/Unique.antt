@@ -1,11 +1,10 @@
 -- Two true rows of one sound tree say the same costs where neither is marked. Only the names are free. Assumes nothing.
-use mathlib.Core.Path.{_≡_, refl, sym, _∙_, ap}
+use mathlib.Core.Path.{_≡_, sym, _∙_, ap}
 use mathlib.Core.Logic.{⊎-elim}
 use mathlib.Core.Bool.{false}
-use mathlib.Core.Option.{Option, none, some}
+use mathlib.Core.Option.{some}
 use mathlib.Core.List.{List, [], _∷_}
 use Prim.Native.Nat.{ℕ, _<_}
-use native.Mathlib.Omega.{arith}
 use Rattle.definitions.specs.Limits.{commands}
 use Rattle.definitions.specs.Tree.{Tree, Sound}
 use Rattle.definitions.specs.Step.{Arrival}

@@ -9,7 +9,7 @@ ghost use Rattle.definitions.specs.Limits.{machines, nodes, commands, sheetLeng
 ghost use Rattle.definitions.specs.Book.{word, number, treeOf};
 ghost use Rattle.definitions.specs.Sheet.{machineRowLength, nodeRowLength, costWord, costOf, nodeRow, machineRowWord, rowsOf};
 ghost use Rattle.definitions.specs.Truth.{nodeExit};
-ghost use Rattle.sheet.specs.Exits.{Readable, exitLimit, Exits};
+ghost use Rattle.sheet.specs.Exits.{Readable, Exits};
 ghost use Rattle.sheet.specs.Fields.{Mark, Marks, Leaves, withMark, withExit, withLast, withCost, withBefore, withBy, withNodeRow};
 ghost use Rattle.sheet.specs.Fields.{withBlankMachine, withBlankNode};
 
