@@ -15,7 +15,7 @@ use Rattle.definitions.specs.Tree.{Tree, Transition, Sound, parent}
 use Rattle.definitions.specs.Step.{counting, found, passed, climb, Arrival}
 use Rattle.definitions.specs.Costs.{ExitCost}
 use Rattle.definitions.specs.Sheet.{Rows}
-use Rattle.definitions.specs.Truth.{nodeExit, move, LeastMoves, TrueMachine, TrueRows}
+use Rattle.definitions.specs.Truth.{nodeExit, move, LeastInside, TrueMachine, TrueRows}
 use Rattle.definitions.proofs.Options.{none-some, some-same, true-false, decided}
 use Rattle.definitions.proofs.Path.{parent-below, enters, enters-state, Inside, own, counting-owned, climb-own, climb-top, passed-found}
 use Rattle.definitions.proofs.Reaching.{run-on, Reaches, Led, named-reaches, least-reaches}
@@ -63,7 +63,7 @@ attained-walk t r {m} row n c own-n cost =
 
 -- the cost that stands there is the least
 least-walk : {t : Tree} → Sound t → (r : Rows) {m f : ℕ} → t .start m ≡ some f → Relaxed t r m f → Attained t r m f → (n : ℕ) → t .owner n ≡ some m
-    → LeastMoves t r f n (r .cost n)
+    → LeastInside t r f n (r .cost n)
 least-walk {t} s r {m} {f} st relaxed row =
     least-reaches (move t r) (λ u. t .owner u ≡ some m) (r .cost) (r .before) (row .start-cost) (row .start-before) (row-led t r row)
     (s .start-owned m f st) (λ n c x b own-n cost step. (move-owned s r n x own-n step, relaxed .moves n c x b own-n cost step))

@@ -50,8 +50,8 @@ pub record NoWay (t : Tree) (a b : ℕ) (answer : Answer) : Type 0 where
   pub stuck : (xs : List ℕ) (c : ℕ) → Moves t a b xs c → ⊥
 
 -- the streams of a list of Load calls that ends in a refresh alone
-abbrev pub refreshed : List (List ℕ) → List (List ℕ)
-refreshed streams = streams ++ (refreshAlone ∷ [])
+abbrev pub withRefresh : List (List ℕ) → List (List ℕ)
+withRefresh streams = streams ++ (refreshAlone ∷ [])
 
 -- Demand 3, one claim on the whole list of calls and the Plan after it. Of an opening, streams of bytes of which the last is a refresh
 -- alone, lists as opened, and lists that Load left for each stream in turn; of any two states of the expected station of all these
@@ -61,8 +61,8 @@ Demand3 =
     (opening : Opening) (streams : List (List ℕ)) → All Bytes streams
     → (lent lent-sheet opened opened-sheet book sheet : List ℕ)
     → OpenSays (openTree opening) lent lent-sheet 0 opened opened-sheet
-    → Loads opened opened-sheet (refreshed streams) book sheet
-    → let station = expected (openTree opening) (refreshed streams) in
+    → Loads opened opened-sheet (withRefresh streams) book sheet
+    → let station = expected (openTree opening) (withRefresh streams) in
     (a b : ℕ) → isState station a ≡ true → isState station b ≡ true
     → (buffer : List ℕ) → length buffer ≡ planBuffer → (answer : Answer) (buffer′ : List ℕ) → PlanSays book sheet a b buffer answer buffer′
     → GoodPlan station a b answer buffer′ ⊎ NoWay station a b answer

@@ -104,7 +104,7 @@ withTransition t n x o = withTransitions t (put (t .transition) n (put (t .trans
 unfoldable pub withStart : Tree → ℕ → Tree
 withStart t n = option t (λ m. withStartOf t m (some n)) (t .owner n)
 
--- the tree with machine m in use, whose one node is n, its start
+-- the tree with node n of machine m, its start (and its one node where m was not in use)
 abbrev pub withMachine : Tree → ℕ → ℕ → Tree
 withMachine t m n = withStartOf (withOwner t n (some m)) m (some n)
 

@@ -58,7 +58,8 @@ ladderTree =
       transition = λ n x. ladderTransition n x;
     }
 
--- ---- a table of rows, as the ladder's is one
+-- ---- The tree of a table of rows, as the ladder's is one (document 02, W-208: holders follow from the rows, the machine that no row holds
+-- is the root, transitions go to the next lower and next higher node of the machine). Document 01's openings are stated above, without it.
 
 -- the greatest number under k that passes the test
 unfoldable pub lastUnder : ℕ → (ℕ → Bool) → Option ℕ

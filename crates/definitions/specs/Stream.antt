@@ -62,7 +62,8 @@ pub data Next : Type 0 where
   taken : (command : Command) (size : ℕ) → Next
   refused : (number : ℕ) → Next
 
--- the next command of a stream as it is written: refused with 5 (unknown opcode), then 4 (cut short)
+-- the next command of a stream as it is written: refused with 5 (unknown opcode: one without operands and command; it lacks both or
+-- neither), then 4 (cut short)
 unfoldable pub readNext : List ℕ → Next
 readNext [] = ended
 readNext (op ∷ rest) =

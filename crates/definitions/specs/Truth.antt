@@ -23,12 +23,12 @@ unfoldable pub move : Tree → Rows → ℕ → ℕ → Option Arrival
 move t r n x = counting t n x >>= λ a. nodeExit t r n x >>= λ e. some (record { node = a .target; cost = e + a .cost })
 
 -- a list of moves inside a machine
-abbrev pub runMoves : Tree → Rows → ℕ → List ℕ → Option Arrival
-runMoves t r = runBy (move t r)
+abbrev pub runInside : Tree → Rows → ℕ → List ℕ → Option Arrival
+runInside t r = runBy (move t r)
 
 -- the least cost for reaching node n from node s inside their machine; none where no list of moves reaches it
-abbrev pub LeastMoves : Tree → Rows → ℕ → ℕ → Option ℕ → Type 0
-LeastMoves t r s n = Least (λ c. (xs : List ℕ) × (runMoves t r s xs ≡ some (record { node = n; cost = c })))
+abbrev pub LeastInside : Tree → Rows → ℕ → ℕ → Option ℕ → Type 0
+LeastInside t r s n = Least (λ c. (xs : List ℕ) × (runInside t r s xs ≡ some (record { node = n; cost = c })))
 
 -- nothing stands in the row of a machine, its mark aside, and in that of a node
 pub record BlankMachine (r : Rows) (m : ℕ) : Type 0 where
@@ -68,7 +68,7 @@ pub record Ended (t : Tree) (r : Rows) (m x c : ℕ) : Type 0 where
 
 -- the row of machine m, whose start node is s, is filled and true
 pub record TrueMachine (t : Tree) (r : Rows) (m s : ℕ) : Type 0 where
-  pub least : (n : ℕ) → t .owner n ≡ some m → LeastMoves t r s n (r .cost n)
+  pub least : (n : ℕ) → t .owner n ≡ some m → LeastInside t r s n (r .cost n)
   pub start-cost : r .cost s ≡ some 0
   pub start-before : r .before s ≡ none
   pub start-by : r .by s ≡ none

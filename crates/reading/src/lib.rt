@@ -167,7 +167,7 @@ pub fn command_at(stream: &[u8], taken: usize) -> Read
         return Read::Refused(4);
     }
     let Decoded::Known(command) = decode(stream, taken, op) else {
-        return Read::Refused(5);
+        return Read::Refused(5); // never: an opcode that has operands has a command
     };
     Read::Taken {
         command,

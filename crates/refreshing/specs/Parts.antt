@@ -8,7 +8,7 @@ use Prim.Native.Nat.{ℕ, _+_, _*_, _≤_, _<_}
 use lib.ListN.{length}
 use Rattle.definitions.specs.Basics.{_>>=_}
 use Rattle.definitions.specs.Limits.{nodes, commands, absent, blank, largestPlanCost}
-use Rattle.definitions.specs.Tree.{Tree}
+use Rattle.definitions.specs.Tree.{Tree, UsedNode}
 use Rattle.definitions.specs.Step.{counting, Arrival}
 use Rattle.definitions.specs.Book.{number}
 use Rattle.definitions.specs.Sheet.{Rows, rowsOf}
@@ -66,7 +66,7 @@ memberMove t r members places i x = placed places (move t r (members i) x)
 -- every node of n's machine has a place
 pub record Placing (t : Tree) (places : List ℕ) (n : ℕ) : Type 0 where
   pub room : length places ≡ nodes
-  pub used : (m : ℕ) × (t .owner n ≡ some m)
+  pub used : UsedNode t n
   pub small : (v : ℕ) → t .owner v ≡ t .owner n → at places v < nodes
 
 -- ---- what the search finds

@@ -7,7 +7,7 @@ use Prim.Native.Nat.{ℕ, _<_}
 use lib.ListN.{length, getD}
 use Rattle.definitions.specs.Basics.{option}
 use Rattle.definitions.specs.Limits.{machines}
-use Rattle.definitions.specs.Tree.{Tree, level}
+use Rattle.definitions.specs.Tree.{Tree, UsedMachine, level}
 use Rattle.definitions.specs.Sheet.{Rows, rowsOf, encodeRows}
 use Rattle.definitions.specs.Truth.{TrueSheet}
 use Rattle.definitions.specs.Edit.{Refreshed}
@@ -24,7 +24,7 @@ pub record MachineLevels (t : Tree) (k : ℕ) (list : List ℕ) : Type 0 where
 
 -- machine m can be filled: it is stale, and nothing just below it is
 pub record Fillable (t : Tree) (m : ℕ) (r : Rows) : Type 0 where
-  pub used : (s : ℕ) × (t .start m ≡ some s)
+  pub used : UsedMachine t m
   pub stale : r .stale m ≡ true
   pub below : (n b : ℕ) → t .owner n ≡ some m → t .below n ≡ some b → r .stale b ≡ false
 

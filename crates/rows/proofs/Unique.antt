@@ -9,7 +9,7 @@ use Rattle.definitions.specs.Limits.{commands}
 use Rattle.definitions.specs.Tree.{Tree, Sound}
 use Rattle.definitions.specs.Step.{Arrival}
 use Rattle.definitions.specs.Sheet.{Rows}
-use Rattle.definitions.specs.Truth.{move, runMoves, TrueRows}
+use Rattle.definitions.specs.Truth.{move, runInside, TrueRows}
 use Rattle.definitions.proofs.Options.{present, least-unique}
 use Rattle.definitions.proofs.Path.{parent-below, counting-range}
 use Rattle.definitions.proofs.Runs.{run-nil, run-first, run-cons}
@@ -46,7 +46,7 @@ module _ {t : Tree} (s : Sound t) {r q : Rows} (rows : TrueRows t r) (other : Tr
       }
 
   -- a list of moves
-  walk-same : (n : ℕ) (xs : List ℕ) {b : Arrival} → t .owner n ≡ some m → runMoves t r n xs ≡ some b → runMoves t q n xs ≡ some b
+  walk-same : (n : ℕ) (xs : List ℕ) {b : Arrival} → t .owner n ≡ some m → runInside t r n xs ≡ some b → runInside t q n xs ≡ some b
   walk-same n [] own e = run-nil (move t q) n ∙ sym (run-nil (move t r) n) ∙ e
   walk-same n (x ∷ xs) own e =
       let first = run-first (move t r) n x xs e in

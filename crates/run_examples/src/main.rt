@@ -10,6 +10,11 @@ fn number(n: u64) {
     io::print_decimal(STDOUT_FILENO, n);
 }
 
+// A byte in 64 bits.
+fn wide(b: u8) -> u64 {
+    b as u64
+}
+
 // Writes the commands at the front of a buffer.
 fn show_commands(buffer: &[u8; 255], count: u32) {
     let mut i = 0u32;
@@ -17,7 +22,7 @@ fn show_commands(buffer: &[u8; 255], count: u32) {
         if 255 <= i {
             return;
         }
-        number(buffer[i as usize] as u64);
+        number(wide(buffer[i as usize]));
         i += 1;
     }
 }
@@ -80,12 +85,21 @@ fn mast(text: &[u8], a: u32, b: u32) {
     );
 }
 
-// A sheet one word too long, then a plan buffer of 254 bytes: both are refused with 1, and no list is written.
-fn lengths() {
+// Writes the first words of the three lists of a run that was refused.
+fn show_lists(book: u32, sheet: u32, buffer: u8) {
+    io::write_all(STDOUT_FILENO, b"untouched:");
+    number(book::wide(book));
+    number(book::wide(sheet));
+    number(wide(buffer));
+    io::write_all(STDOUT_FILENO, b"\n");
+}
+
+// A sheet of one word too many.
+fn long_sheet() {
     let mut book = [7u32; book::BOOK];
     let mut sheet = [7u32; sheet::SHEET + 1];
     let mut buffer = [7u8; 255];
-    let long = wholerun::whole_run(
+    let answer = wholerun::whole_run(
         Opening::Fresh,
         &mut book,
         &mut sheet,
@@ -95,23 +109,27 @@ fn lengths() {
         0,
         &mut buffer,
     );
-    show(b"a long sheet:", long, &buffer);
-    let short = wholerun::whole_run(
+    show(b"a long sheet:", answer, &buffer);
+    show_lists(book[0], sheet[0], buffer[0]);
+}
+
+// A plan buffer of one byte too few.
+fn short_buffer() {
+    let mut book = [7u32; book::BOOK];
+    let mut sheet = [7u32; sheet::SHEET];
+    let mut buffer = [7u8; 254];
+    let answer = wholerun::whole_run(
         Opening::Fresh,
         &mut book,
-        &mut sheet[..sheet::SHEET],
+        &mut sheet,
         b"",
         &[],
         0,
         0,
-        &mut buffer[..254],
+        &mut buffer,
     );
-    show(b"a short buffer:", short, &buffer);
-    io::write_all(STDOUT_FILENO, b"untouched:");
-    number(book[0] as u64);
-    number(sheet[0] as u64);
-    number(buffer[0] as u64);
-    io::write_all(STDOUT_FILENO, b"\n");
+    show(b"a short buffer:", answer, &[0u8; 255]);
+    show_lists(book[0], sheet[0], buffer[0]);
 }
 
 fn main() {
@@ -123,12 +141,12 @@ fn main() {
     mast(b"a node that is not plain:", 1, 0);
     run(b"the ladder:", Opening::Ladder, b"", &[], 94, 187);
     run(
-        b"the ladder with its start's way up cleared:",
+        b"the ladder with command 1 of its start cleared:",
         Opening::Ladder,
         b"\x15\x00\x01\x01",
         &[4],
         1,
-        2,
+        7,
     );
     run(
         b"ends that fall:",
@@ -146,5 +164,6 @@ fn main() {
         0,
         0,
     );
-    lengths();
+    long_sheet();
+    short_buffer();
 }

@@ -22,7 +22,7 @@ use Rattle.definitions.specs.Load.{Outcome, load, stopped, after, expected}
 use Rattle.definitions.specs.Open.{Opening, openTree}
 use Rattle.definitions.specs.Answer.{Answer, refuses, InOrder}
 use Rattle.definitions.specs.Calls.{OpenSays, LoadAnswer, LoadDone, LoadSays, GivesPlan, planRefusals, PlanSays}
-use Rattle.definitions.specs.Demand.{Bytes, Loads, refreshAlone, refreshed, GoodPlan, Demand3}
+use Rattle.definitions.specs.Demand.{Bytes, Loads, refreshAlone, withRefresh, GoodPlan, Demand3}
 use Rattle.definitions.proofs.Options.{none-some, true-false, isSome-true, isSome-false, and-true}
 use Rattle.definitions.proofs.Answers.{load-done, plan-on}
 use Rattle.definitions.proofs.Words.{treeOf-encode, encode-well-formed}
@@ -105,12 +105,12 @@ module _ {t : Tree} {book sheet : List ℕ} (kept : Carried t book sheet) where
 -- ---- all Loads, each on what the one before left, with a refresh alone as the last
 
 -- their streams are streams of bytes
-pub refreshed-bytes : (streams : List (List ℕ)) → All Bytes streams → All Bytes (refreshed streams)
+pub refreshed-bytes : (streams : List (List ℕ)) → All Bytes streams → All Bytes (withRefresh streams)
 refreshed-bytes [] bytes = ((omega arith, tt), tt)
 refreshed-bytes (stream ∷ streams) bytes = (bytes .0, refreshed-bytes streams (bytes .1))
 
 loads-refreshed : {t : Tree} {book sheet book′ sheet′ : List ℕ} (streams : List (List ℕ)) → Carried t book sheet → All Bytes streams
-    → Loads book sheet (refreshed streams) book′ sheet′ → PlanReady (expected t (refreshed streams)) book′ sheet′
+    → Loads book sheet (withRefresh streams) book′ sheet′ → PlanReady (expected t (withRefresh streams)) book′ sheet′
 unfolding expected
 loads-refreshed {t} {book′ = book′} {sheet′ = sheet′} [] kept bytes (Loads.then says Loads.done) =
     subst (λ (o : Outcome). PlanReady (o .tree) book′ sheet′) (sym (load-refresh t)) (refresh-done kept says)
@@ -120,7 +120,7 @@ loads-refreshed (stream ∷ streams) kept bytes (Loads.then says rest) =
 -- from a holding just opened
 pub prepared : (o : Opening) (streams : List (List ℕ)) → All Bytes streams → {lent lent-sheet opened-book opened-sheet book sheet : List ℕ}
     → OpenSays (openTree o) lent lent-sheet 0 opened-book opened-sheet
-    → Loads opened-book opened-sheet (refreshed streams) book sheet → PlanReady (expected (openTree o) (refreshed streams)) book sheet
+    → Loads opened-book opened-sheet (withRefresh streams) book sheet → PlanReady (expected (openTree o) (withRefresh streams)) book sheet
 prepared o streams bytes opening calls = loads-refreshed streams (opened o opening) bytes calls
 
 -- ---- the Plan
@@ -190,4 +190,4 @@ answered sound ready a b room says =
 
 pub demand-3 : Demand3
 demand-3 o streams bytes lent lent-sheet opened-book opened-sheet book sheet opening calls a b at-a at-b buffer room answer buffer′ says =
-    answered (expected-sound (open-sound o) (refreshed streams) (refreshed-bytes streams bytes)) (prepared o streams bytes opening calls) a b room says .demanded at-a at-b
+    answered (expected-sound (open-sound o) (withRefresh streams) (refreshed-bytes streams bytes)) (prepared o streams bytes opening calls) a b room says .demanded at-a at-b

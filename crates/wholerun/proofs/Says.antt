@@ -10,7 +10,7 @@ use Rattle.definitions.specs.Load.{expected}
 use Rattle.definitions.specs.Open.{Opening, openTree}
 use Rattle.definitions.specs.Answer.{Answer}
 use Rattle.definitions.specs.Calls.{RightLengths, OpenSays}
-use Rattle.definitions.specs.Demand.{refreshed}
+use Rattle.definitions.specs.Demand.{withRefresh}
 use Rattle.wholerun.specs.Ends.{Rising, streamsOf}
 use Rattle.wholerun.specs.WholeRun.{RunAnswered, ran, refused, RunSays}
 
@@ -33,6 +33,6 @@ module _ (o : Opening) (book sheet bytes ends : List ℕ) (a b : ℕ) (buffer : 
 
     -- neither
     pub says-answered : Rising 0 ends (length bytes) → {answer : Answer} {book′ sheet′ buffer′ : List ℕ}
-        → RunAnswered (expected (openTree o) (refreshed (streamsOf 0 ends bytes))) a b buffer answer book′ sheet′ buffer′
+        → RunAnswered (expected (openTree o) (withRefresh (streamsOf 0 ends bytes))) a b buffer answer book′ sheet′ buffer′
         → RunSays o book sheet bytes ends a b buffer (ran answer) book′ sheet′ buffer′
     says-answered rising {answer} done = inr (right, inr (rising, (answer, refl, done)))

@@ -15,7 +15,7 @@ use Rattle.definitions.specs.Load.{expected}
 use Rattle.definitions.specs.Open.{Opening, openTree}
 use Rattle.definitions.specs.Answer.{Answer, refuses, asks, wantsLeast, InOrder}
 use Rattle.definitions.specs.Calls.{RightLengths, GivesPlan, stateRefusals}
-use Rattle.definitions.specs.Demand.{refreshed, GoodPlan, NoWay}
+use Rattle.definitions.specs.Demand.{withRefresh, GoodPlan, NoWay}
 use Rattle.wholerun.specs.Ends.{Rising, streamsOf}
 
 -- both lists are ready for Plan: they are those of this tree, with nothing stale
@@ -54,4 +54,4 @@ RunSays opening book sheet bytes ends a b buffer run book′ sheet′ buffer′ 
     InOrder (asks 1 (RightLengths book sheet × (length buffer ≡ planBuffer)) ∷ asks 99 (Rising 0 ends (length bytes)) ∷ [])
     (λ k. (run ≡ refused k) × (book′ ≡ book) × (sheet′ ≡ sheet) × (buffer′ ≡ buffer))
     ((answer : Answer) × (run ≡ ran answer)
-    × RunAnswered (expected (openTree opening) (refreshed (streamsOf 0 ends bytes))) a b buffer answer book′ sheet′ buffer′)
+    × RunAnswered (expected (openTree opening) (withRefresh (streamsOf 0 ends bytes))) a b buffer answer book′ sheet′ buffer′)

@@ -6,7 +6,7 @@ ghost use Rattle.definitions.specs.Limits.{bookLength, sheetLength};
 ghost use Rattle.definitions.specs.Load.{expected};
 ghost use Rattle.definitions.specs.Open.{openTree};
 ghost use Rattle.definitions.specs.Calls.{OpenSays};
-ghost use Rattle.definitions.specs.Demand.{Loads, refreshAlone, refreshed};
+ghost use Rattle.definitions.specs.Demand.{Loads, refreshAlone, withRefresh};
 ghost use Rattle.book.specs.Decides.{Decides};
 ghost use Rattle.wholerun.specs.Ends.{Rising, streamsOf};
 ghost use Rattle.wholerun.specs.Meaning.{openingOf, runOf};
@@ -80,7 +80,7 @@ fn refresh(book: &mut [u32], sheet: &mut [u32])
 // Opens a holding, loads it stream by stream and refreshes it.
 fn prepare(opening: Opening, book: &mut [u32], sheet: &mut [u32], bytes: &[u8], ends: &[usize])
     requires { ⌜ (length (now book) ≡ bookLength) × (length (now sheet) ≡ sheetLength) × Rising 0 (now ends) (length (now bytes)) ⌝ }
-    ensures { λ _. ⌜ PlanReady (expected (openTree (openingOf opening)) (refreshed (streamsOf 0 (now (ends .entry)) (now (bytes .entry))))) (now (book .exit)) (now (sheet .exit)) ⌝ }
+    ensures { λ _. ⌜ PlanReady (expected (openTree (openingOf opening)) (withRefresh (streamsOf 0 (now (ends .entry)) (now (bytes .entry))))) (now (book .exit)) (now (sheet .exit)) ⌝ }
 {
     open(opening, book, sheet);
     load_all(book, sheet, bytes, ends);

@@ -2,7 +2,7 @@
 use native.Mathlib.Omega.{arith}
 use lib.ListN.{length}
 use denote.Ref.{now}
-use Rattle.definitions.specs.Demand.{refreshed}
+use Rattle.definitions.specs.Demand.{withRefresh}
 use Rattle.definitions.proofs.Kept.{expected-sound}
 use Rattle.definitions.proofs.Opened.{open-sound}
 use Rattle.book.proofs.Decide.{passed, refused}
@@ -78,7 +78,7 @@ returns-5 c =
     let bytes = all-bytes (now (e .args .bytes)) (λ i. omega (arith, known .shared-slice-known .given i)) in
     let streams = streamsOf 0 (now (e .args .ends)) (now (e .args .bytes)) in
     let sound =
-    expected-sound (open-sound (openingOf (e .args .opening))) (refreshed streams)
+    expected-sound (open-sound (openingOf (e .args .opening))) (withRefresh streams)
     (refreshed-bytes streams (streams-bytes 0 (now (e .args .ends)) (now (e .args .bytes)) bytes)) in
     says-answered (openingOf (e .args .opening)) (now (e .args .book)) (now (e .args .sheet)) (now (e .args .bytes)) (now (e .args .ends)) (e .args .a) (e .args .b) (now (e .args .buffer))
     ((room .before .before .if1 .left, room .before .if2 .left), room .if3 .left) (rising r)
