@@ -4,3 +4,4 @@ pub mod Decide
 pub mod Counts
 pub mod Said
 pub mod Chosen
+pub mod Recorded

@@ -1,3 +1,4 @@
 pub mod Fields
 pub mod Decides
 pub mod Chosen
+pub mod Recorded

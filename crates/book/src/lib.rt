@@ -46,7 +46,7 @@ pub fn word(list: &[u32], i: u32) -> u32
 }
 
 // The word at place k of machine m's record.
-fn machine_word(book: &[u32], m: u32, k: u32) -> u32
+pub fn machine_word(book: &[u32], m: u32, k: u32) -> u32
     requires { ⌜ (length (now book) ≡ bookLength) × (m < machines) × (k < machineFields) ⌝ }
     ensures { λ r. ⌜ r ≡ machineField (treeOf (now (book .entry))) m k ⌝ }
 {
@@ -55,7 +55,7 @@ fn machine_word(book: &[u32], m: u32, k: u32) -> u32
 }
 
 // The word at place k of node n's record.
-fn node_word(book: &[u32], n: u32, k: u32) -> u32
+pub fn node_word(book: &[u32], n: u32, k: u32) -> u32
     requires { ⌜ (length (now book) ≡ bookLength) × (n < nodes) × (k < nodeFields) ⌝ }
     ensures { λ r. ⌜ r ≡ nodeField (treeOf (now (book .entry))) n k ⌝ }
 {
@@ -120,7 +120,7 @@ pub fn counting(book: &[u32], n: u32, x: u32) -> u32
 }
 
 // Makes v the word at place k of machine m's record; every other word stays.
-fn set_machine_word(book: &mut [u32], m: u32, k: u32, v: u32)
+pub fn set_machine_word(book: &mut [u32], m: u32, k: u32, v: u32)
     requires { ⌜ (length (now book) ≡ bookLength) × (m < machines) × (k < machineFields) ⌝ }
     ensures { λ r. ⌜ Holds (now (book .exit)) (withMachineField (treeOf (now (book .entry))) m k v) ⌝ }
 {
@@ -129,7 +129,7 @@ fn set_machine_word(book: &mut [u32], m: u32, k: u32, v: u32)
 }
 
 // Makes v the word at place k of node n's record; every other word stays.
-fn set_node_word(book: &mut [u32], n: u32, k: u32, v: u32)
+pub fn set_node_word(book: &mut [u32], n: u32, k: u32, v: u32)
     requires { ⌜ (length (now book) ≡ bookLength) × (n < nodes) × (k < nodeFields) ⌝ }
     ensures { λ r. ⌜ Holds (now (book .exit)) (withNodeField (treeOf (now (book .entry))) n k v) ⌝ }
 {

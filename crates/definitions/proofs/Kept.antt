@@ -33,7 +33,7 @@ put-here : {A : Type 0} (f : ℕ → A) (k : ℕ) (v : A) (n : ℕ) → n ≡ k 
 put-here f k v n same = rw (eq-eqb n k same)
 
 -- a value of a changed function is the new one at k, or an old one
-put-some : {A : Type 0} (f : ℕ → Option A) (k : ℕ) (v : A) (n : ℕ) {a : A} → put f k (some v) n ≡ some a
+pub put-some : {A : Type 0} (f : ℕ → Option A) (k : ℕ) (v : A) (n : ℕ) {a : A} → put f k (some v) n ≡ some a
     → ((n ≡ k) × (v ≡ a)) ⊎ (f n ≡ some a)
 put-some f k v n e =
     ⊎-elim (λ same. inl (same, some-same (put-here f k (some v) n same) e)) (λ other. inr (sym (put-other f k (some v) n other) ∙ e))
@@ -71,7 +71,7 @@ deep-climbs (at-root e) = ap {B = Option ℕ} some e
 deep-climbs (under held up way) = rw (held, up) (deep-climbs way)
 
 -- every value of f is one of g
-abbrev Stays : (ℕ → Option ℕ) → (ℕ → Option ℕ) → Type 0
+abbrev pub Stays : (ℕ → Option ℕ) → (ℕ → Option ℕ) → Type 0
 Stays f g = (i a : ℕ) → f i ≡ some a → g i ≡ some a
 
 -- machine m climbs to the root in at most 7 steps
@@ -87,7 +87,7 @@ deep-onto base holders owners (under held up way) =
     (suc j, omega arith, under (holders _ _ held) (owners _ _ up) found)
 
 -- and so every machine in use climbs, if none was too deep for it
-climbs-onto : {t u : Tree} → Sound t → {d : ℕ} → Deep u (t .root) d → Stays (t .holder) (u .holder) → Stays (t .owner) (u .owner)
+pub climbs-onto : {t u : Tree} → Sound t → {d : ℕ} → Deep u (t .root) d → Stays (t .holder) (u .holder) → Stays (t .owner) (u .owner)
     → ((m f k : ℕ) → t .start m ≡ some f → Deep t m k → k + d < levels) → (m f : ℕ) → t .start m ≡ some f → Climbs u m
 climbs-onto s {d} base holders owners room m f used =
     let (k, small, way) = deep s used in
@@ -96,7 +96,7 @@ climbs-onto s {d} base holders owners room m f used =
     (j, omega arith, deep-climbs found)
 
 -- in particular where the root stays
-climbs-kept : {t : Tree} → Sound t → (u : Tree) → t .root ≡ u .root → Stays (t .holder) (u .holder) → Stays (t .owner) (u .owner)
+pub climbs-kept : {t : Tree} → Sound t → (u : Tree) → t .root ≡ u .root → Stays (t .holder) (u .holder) → Stays (t .owner) (u .owner)
     → (m f : ℕ) → t .start m ≡ some f → Climbs u m
 climbs-kept s u same holders owners =
     climbs-onto s (at-root same) holders owners (λ m f k used way. omega (arith, deep-small s used way))

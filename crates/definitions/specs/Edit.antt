@@ -46,6 +46,10 @@ apart t n v = option true (λ m. not (isAt (t .owner v) m)) (t .owner n)
 abbrev pub lowest : Tree → ℕ → Bool
 lowest t n = usedNode t n && eqb (level t n) levels
 
+-- whether some node stands there, so that no machine fits above the root
+abbrev pub anyLowest : Tree → Bool
+anyLowest t = anyBelow nodes (lowest t)
+
 -- the refusals of each command in their order: 6 (number out of range), 7 (machine or node not in use), 8 (new number in use),
 -- 9 (already refined), 10 (a start node), 11 (target in another machine), 12 (over 8 levels)
 unfoldable pub refusals : Tree → Edit → List Test
@@ -61,7 +65,7 @@ refusals t (arrow n x v c) =
 refusals t (clear n x) = (6 when (badNode n || badCommand x)) ∷ (7 when not (usedNode t n)) ∷ []
 refusals t (start n) = (6 when badNode n) ∷ (7 when not (usedNode t n)) ∷ []
 refusals t (crown m n) =
-    (6 when (badMachine m || badNode n)) ∷ (8 when (usedMachine t m || usedNode t n)) ∷ (12 when anyBelow nodes (lowest t)) ∷ []
+    (6 when (badMachine m || badNode n)) ∷ (8 when (usedMachine t m || usedNode t n)) ∷ (12 when anyLowest t) ∷ []
 
 -- the number that a command is refused with; 0 where it is taken
 unfoldable pub refusal : Tree → Command → ℕ

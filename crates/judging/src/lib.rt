@@ -4,11 +4,11 @@ ghost use mathlib.Core.Path.{_≡_};
 ghost use mathlib.Core.Bool.{false, not, _||_};
 ghost use Prim.Native.Nat.{ℕ, _<_};
 ghost use Rattle.definitions.specs.Limits.{machines, nodes};
-ghost use Rattle.definitions.specs.Basics.{isSome, option, anyBelow};
+ghost use Rattle.definitions.specs.Basics.{isSome, option};
 ghost use Rattle.definitions.specs.Tree.{Tree, UsedNode, usedMachine, usedNode};
 ghost use Rattle.definitions.specs.Book.{treeOf, WellFormed};
 ghost use Rattle.definitions.specs.Stream.{edit, begin, add, refine, remove, arrow, clear, start, crown};
-ghost use Rattle.definitions.specs.Edit.{badMachine, badNode, badCommand, isStart, apart, lowest, refusal};
+ghost use Rattle.definitions.specs.Edit.{badMachine, badNode, badCommand, isStart, apart, lowest, anyLowest, refusal};
 ghost use Rattle.reading.specs.Meaning.{commandOf};
 use reading::Command;
 
@@ -138,9 +138,9 @@ fn lowest_machine(book: &[u32], m: u32) -> bool
 }
 
 // Whether any node stands at the lowest level. All nodes of a machine stand at one level, so the start nodes are looked at.
-fn any_lowest(book: &[u32]) -> bool
+pub fn any_lowest(book: &[u32]) -> bool
     requires { ⌜ WellFormed (now book) ⌝ }
-    ensures { λ r. ⌜ r ≡ anyBelow nodes (lowest (treeOf (now (book .entry)))) ⌝ }
+    ensures { λ r. ⌜ r ≡ anyLowest (treeOf (now (book .entry))) ⌝ }
 {
     let mut m: u32 = 0;
     while m < book::MACHINES {

@@ -177,7 +177,7 @@ fn mark(book: &[u32], m: u32) -> u32
 }
 
 // Marks every machine of a book, and leaves all else in the sheet blank.
-fn open_sheet(book: &[u32], sheet: &mut [u32])
+pub fn open_sheet(book: &[u32], sheet: &mut [u32])
     requires { ⌜ (length (now book) ≡ bookLength) × (length (now sheet) ≡ sheetLength) ⌝ }
     ensures { λ _. ⌜ now (sheet .exit) ≡ encodeRows (openRows (treeOf (now (book .entry)))) ⌝ }
 {
