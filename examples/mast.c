@@ -1,10 +1,12 @@
 /*
 ** Opens a holding, loads the stream whose hexadecimal text is named on the command line, refreshes it, and prints the cheapest plan
-** from state 0 to state 2 and from state 2 to state 11, with each state that the station passes.
+** from state 0 to state 2 and from state 2 to state 11, with each state that the station passes. Then it merges the book with itself,
+** and plans from state 0 to state 2 again and between the same states of the twin.
 */
 #include <ctype.h>
 #include <stdio.h>
 #include <stdlib.h>
+#include <string.h>
 
 #include "himm.h"
 
@@ -49,6 +51,19 @@ static void show_plan(uint32_t from, uint32_t to) {
   printf("\n");
 }
 
+/* Puts the book merged with itself in its place, and prints the new root and its nodes with the machines that they hold. */
+static void merge_with_itself(void) {
+  static uint32_t old[HIMM_BOOK_WORDS];
+  memcpy(old, book, sizeof old);
+  must("merge", himm_merge(old, HIMM_BOOK_WORDS, old, HIMM_BOOK_WORDS, book, HIMM_BOOK_WORDS, sheet, HIMM_SHEET_WORDS));
+  printf("merged with itself: root %u", (unsigned)book[0]);
+  for (uint32_t n = 0; n < HIMM_NODES; n++) {
+    const uint32_t *node = book + 129 + 18 * n; /* owner, machine below */
+    if (node[0] == book[0]) printf(", node %u holds machine %u", (unsigned)n, (unsigned)node[1]);
+  }
+  printf("\n");
+}
+
 int main(int argc, char **argv) {
   static const uint8_t refresh[] = {HIMM_REFRESH};
   FILE *text = argc == 2 ? fopen(argv[1], "r") : NULL;
@@ -62,5 +77,9 @@ int main(int argc, char **argv) {
   load(refresh, sizeof refresh);
   show_plan(0, 2);
   show_plan(2, 11);
+  merge_with_itself();
+  load(refresh, sizeof refresh);
+  show_plan(0, 2);
+  show_plan(3, 5);
   return 0;
 }

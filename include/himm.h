@@ -97,13 +97,14 @@ enum himm_refusal {
   HIMM_ALREADY_REFINED = 9,  /* refine: the node holds a machine already */
   HIMM_START_NODE = 10,      /* remove: the node is its machine's start node */
   HIMM_OTHER_MACHINE = 11,   /* arrow: the target is in another machine */
-  HIMM_TOO_DEEP = 12,        /* refine, crown: there would be more than 8 levels */
+  HIMM_TOO_DEEP = 12,        /* refine, crown, merge: there would be more than 8 levels */
   HIMM_STALE = 13,           /* a machine is marked stale in the sheet: refresh first */
   HIMM_NOT_PLAIN = 14,       /* the node is refined, so it is no state */
   HIMM_BUFFER_TOO_SHORT = 15,/* the plan buffer or the output is too short */
   HIMM_NO_WAY = 16,          /* no list of commands leads there */
   HIMM_STOPS = 17,           /* no transition is found: the station stops */
-  HIMM_NEITHER_ARRIVES = 18  /* choose: neither list arrives */
+  HIMM_NEITHER_ARRIVES = 18, /* choose: neither list arrives */
+  HIMM_TOO_FEW_NUMBERS = 19  /* merge: the first book has too few unused numbers */
 };
 
 /*
@@ -210,6 +211,25 @@ uint32_t himm_write(const uint32_t *book, size_t book_len, uint8_t *out, size_t 
 */
 uint32_t himm_choose(const uint32_t *book, size_t book_len, uint32_t from, uint32_t to, const uint8_t *first, size_t first_len,
                      const uint8_t *second, size_t second_len, uint32_t *which, uint32_t *used);
+
+/*
+** himm_merge: make one book from two, and its sheet. The first book keeps its numbers. The machines of the second, in rising order, take
+** the lowest machines that are not in use in the first, and its nodes the lowest such nodes; all of them move, also those whose own
+** number would be free. A new root takes the next lowest machine and the next two lowest nodes: the lower node is its start and holds
+** the first book's root, the other holds the second's. The root has no transitions, so a cheapest list between two states of one of the
+** books costs what it cost there, where there was no way there is none, and no way leads from one of the books into the other.
+**
+**   first, first_len    HIMM_BOOK_WORDS words, read only; no sheet is needed
+**   second, second_len  HIMM_BOOK_WORDS words, read only; first and second may be one and the same list
+**   book, book_len      HIMM_BOOK_WORDS words, written whole; what they held does not matter. It must not overlap the other three lists
+**   sheet, sheet_len    HIMM_SHEET_WORDS words, written whole, likewise; every machine in use is stale
+**
+** Refuses: HIMM_WRONG_LENGTH (any of the four lists), HIMM_TORN_BOOK (the first book), HIMM_TORN_BOOK (the second book), HIMM_TOO_DEEP
+** (one of the books has a machine at level HIMM_LEVELS), HIMM_TOO_FEW_NUMBERS (the second book's machines and one more, or its nodes and
+** two more, are more than the first book leaves unused).
+*/
+uint32_t himm_merge(const uint32_t *first, size_t first_len, const uint32_t *second, size_t second_len, uint32_t *book, size_t book_len,
+                    uint32_t *sheet, size_t sheet_len);
 
 #ifdef __cplusplus
 }

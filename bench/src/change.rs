@@ -2,7 +2,7 @@
 
 use crate::library::Library;
 use crate::rows::Agreement;
-use crate::side::{kinds, Side, ROUNDS};
+use crate::side::{half_full, kinds, Side, ROUNDS};
 use crate::timing::{rounds, Times};
 
 /// A row: its name, the call that it needs, and its work of one round, which gives an answer that both libraries must agree on.
@@ -27,6 +27,12 @@ const ROWS: [Row; 12] = [
     ("write", "himm_write", |side, i, t| vec![side.write(i, t) as u32]),
 ];
 
+/// The rows of two half-full books.
+const MERGING: [Row; 2] = [
+    ("merge two half-full random books", "himm_merge", |side, i, t| side.merge(i, t)),
+    ("write and load both", "himm_load", |side, i, t| side.write_and_load_both(i, t)),
+];
+
 /// The answer of work that gives none.
 fn none(_: ()) -> Vec<u32> {
     vec![]
@@ -46,6 +52,9 @@ pub fn table(before: &'static Library, after: &'static Library, agreement: &mut 
         println!("{name}: {} in turn", before.books.len());
         ROWS.iter().for_each(|each| row(each, before, after, agreement));
     }
+    let (one, other) = (half_full(before), half_full(after));
+    println!("half-full random books: {} in turn", one.books.len());
+    MERGING.iter().for_each(|each| row(each, &one, &other, agreement));
     for (name, before, after) in both.iter().filter(|(_, before, _)| before.books.len() > 1) {
         println!("{name}: one again and again");
         let (before, after) = (before.first(), after.first());

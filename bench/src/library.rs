@@ -23,6 +23,7 @@ type Step = unsafe extern "C" fn(*const u32, usize, u32, u32, *mut u32, *mut u32
 type Plan = unsafe extern "C" fn(*const u32, usize, *const u32, usize, u32, u32, *mut u8, usize, *mut u32, *mut u32) -> u32;
 type Write = unsafe extern "C" fn(*const u32, usize, *mut u8, usize, *mut u32) -> u32;
 type Choose = unsafe extern "C" fn(*const u32, usize, u32, u32, *const u8, usize, *const u8, usize, *mut u32, *mut u32) -> u32;
+type Merge = unsafe extern "C" fn(*const u32, usize, *const u32, usize, *mut u32, usize, *mut u32, usize) -> u32;
 
 /// The calls of a library, `None` where it lacks one, and the lengths of its books and sheets.
 pub struct Library {
@@ -35,6 +36,7 @@ pub struct Library {
     plan: Option<Plan>,
     write: Option<Write>,
     choose: Option<Choose>,
+    merge: Option<Merge>,
     pub book_words: usize,
     pub sheet_words: usize,
 }
@@ -90,6 +92,7 @@ impl Library {
             plan: opened.call("himm_plan"),
             write: opened.call("himm_write"),
             choose: opened.call("himm_choose"),
+            merge: opened.call("himm_merge"),
             opened,
             book_words,
             sheet_words,
@@ -155,6 +158,13 @@ impl Library {
         let (one, two) = ((first.as_ptr(), first.len()), (second.as_ptr(), second.len()));
         let number = unsafe { call(book.as_ptr(), book.len(), from, to, one.0, one.1, two.0, two.1, &mut which, &mut used) };
         answer(number, (which, used))
+    }
+
+    /// Two books made one, with its sheet.
+    pub fn merge(&self, first: &[u32], second: &[u32], book: &mut [u32], sheet: &mut [u32]) -> Result<(), u32> {
+        let call = self.merge.expect("himm_merge");
+        let (one, two) = ((first.as_ptr(), first.len()), (second.as_ptr(), second.len()));
+        answer(unsafe { call(one.0, one.1, two.0, two.1, book.as_mut_ptr(), book.len(), sheet.as_mut_ptr(), sheet.len()) }, ())
     }
 }
 

@@ -5,7 +5,7 @@ use crate::side::{Side, BOOKS, ROUNDS};
 use crate::timing::{medians, print_row, rounds, timed, Times};
 use himm_model::flat::Flat;
 use himm_model::stream::Station;
-use himm_model::{book, write};
+use himm_model::{book, merge, write};
 
 /// How many answers were compared, and how many of them differed.
 #[derive(Default)]
@@ -28,18 +28,23 @@ impl Agreement {
     }
 }
 
-/// Every row of one kind of book, the next book in each round.
-pub fn all(name: &str, side: &Side, agreement: &mut Agreement) {
-    let ways = (0..ROUNDS).filter(|&i| search(&Flat::of(&side.at(i).book), side, i).is_some()).count();
+/// The name of a kind of book, with what its books are like.
+fn title(name: &str, side: &Side) -> String {
     let mean = |count: &dyn Fn(&Holding) -> usize| side.books.iter().map(count).sum::<usize>() / side.books.len();
-    println!();
-    println!(
-        "{name}: {} in turn, in the mean {} machines, {} states, {} bytes as a stream; a way in {ways} of {ROUNDS} pairs",
+    format!(
+        "{name}: {} in turn, in the mean {} machines, {} states, {} bytes as a stream",
         side.books.len(),
         mean(&|holding| holding.tree.machines_in_use().len()),
         mean(&|holding| holding.tree.states().len()),
         side.streams.iter().map(Vec::len).sum::<usize>() / side.streams.len()
-    );
+    )
+}
+
+/// Every row of one kind of book, the next book in each round.
+pub fn all(name: &str, side: &Side, agreement: &mut Agreement) {
+    let ways = (0..ROUNDS).filter(|&i| search(&Flat::of(&side.at(i).book), side, i).is_some()).count();
+    println!();
+    println!("{}; a way in {ways} of {ROUNDS} pairs", title(name, side));
     again(side, agreement);
     loads(side, agreement);
     refreshes(side, agreement);
@@ -126,6 +131,20 @@ fn refreshes(side: &Side, agreement: &mut Agreement) {
 fn writes(side: &Side, agreement: &mut Agreement) {
     let theirs = |i: usize, times: &mut _| timed(times, || write::stream(&book::decode(&side.at(i).book).expect("a book"))).len();
     rounds(ROUNDS / 4, |i, t| side.write(i, t), theirs, |a, b| agreement.of(a, b)).print("write", "the plain model's write");
+}
+
+/// A merge of two books against writing and loading them both. The merged tree is the model's, and the loaded ones are those written.
+pub fn merges(name: &str, side: &Side, agreement: &mut Agreement) {
+    println!();
+    println!("{}", title(name, side));
+    let both = |i: usize, times: &mut _| (i, side.write_and_load_both(i, times));
+    let agree = |merged: Vec<u32>, (i, loaded): (usize, Vec<u32>)| {
+        let [first, second] = side.two(i);
+        let tree = merge::merge(&first.tree, &second.tree).expect("two trees that fit together");
+        agreement.of(&merged[..], tree_words(&book::encode(&tree)));
+        agreement.of(loaded, [first, second].map(|holding| tree_words(&holding.book)).concat());
+    };
+    rounds(ROUNDS, |i, t| side.merge(i, t), both, agree).print("merge two half-full random books", "write and load both (ours)");
 }
 
 /// Where a plan's time goes: lengths, book, sheet, and the rest, which is the tables, the search and the expansion; beside it the flat

@@ -5,7 +5,7 @@ use crate::holding::{then_refresh, tree_words, Holding};
 use crate::library::Library;
 use crate::timing::{timed, Times};
 use himm_model::random::{Costs, Growth, Random, Shape};
-use himm_model::COMMANDS;
+use himm_model::{COMMANDS, MACHINES, NODES, STREAM_BYTES};
 
 /// How often each piece of work is timed.
 pub const ROUNDS: usize = 400;
@@ -35,6 +35,13 @@ pub fn kinds(library: &'static Library) -> Vec<(&'static str, Side)> {
     let chain = Shape { growth: Growth::EvenChain, machines: 8, nodes: 256, commands: COMMANDS, filled: 30, loops: 5, costs: Costs::Any };
     let of = |shape: &Shape| Side::of((0..BOOKS).map(|seed| Holding::random(library, 40 + seed as u64, shape)).collect());
     vec![("the ladder", Side::of(vec![Holding::ladder(library)])), ("random books", of(&wide)), ("chains of eight levels", of(&chain))]
+}
+
+/// Random books of which any two fit together: each has about half of the machines and of the nodes, and none at the lowest level.
+pub fn half_full(library: &'static Library) -> Side {
+    let shape = Shape { machines: MACHINES / 2 - 1, nodes: NODES / 2 - 1, filled: 60, ..Shape::full() };
+    let books = (40..).map(|seed| Holding::random(library, seed, &shape)).filter(|holding| !holding.tree.is_deep());
+    Side::of(books.take(BOOKS).collect())
 }
 
 impl Side {
@@ -68,6 +75,11 @@ impl Side {
     /// The book of a round.
     pub fn at(&self, round: usize) -> &Holding {
         &self.books[round % self.books.len()]
+    }
+
+    /// The two books of a round that needs two; the next round has two others.
+    pub fn two(&self, round: usize) -> [&Holding; 2] {
+        [self.at(2 * round), self.at(2 * round + 1)]
     }
 
     /// The ladder opened; the lists are filled outside the clock.
@@ -128,6 +140,26 @@ impl Side {
     pub fn choose(&self, round: usize, times: &mut Times) -> Option<(u32, u32)> {
         let [first, second] = &self.lists[round];
         timed(times, || self.library().choose(&self.at(round).book, self.pairs[round], first, second)).ok()
+    }
+
+    /// Two books merged; the lists are filled outside the clock.
+    pub fn merge(&self, round: usize, times: &mut Times) -> Vec<u32> {
+        let [first, second] = self.two(round);
+        let (mut book, mut sheet) = (self.fresh.book.clone(), self.fresh.sheet.clone());
+        timed(times, || self.library().merge(&first.book, &second.book, &mut book, &mut sheet)).expect("two books that fit together");
+        tree_words(&book).to_vec()
+    }
+
+    /// The same two books written, and each stream loaded into a fresh holding of its own; gives the words of both trees.
+    pub fn write_and_load_both(&self, round: usize, times: &mut Times) -> Vec<u32> {
+        let (mut holdings, mut out) = ([self.fresh.clone(), self.fresh.clone()], vec![u8::MAX; STREAM_BYTES]);
+        timed(times, || {
+            for (from, to) in self.two(round).into_iter().zip(&mut holdings) {
+                let length = self.library().write(&from.book, &mut out).expect("room enough");
+                self.library().load(&mut to.book, &mut to.sheet, &out[..length]).expect("a good stream");
+            }
+        });
+        holdings.iter().flat_map(|holding| tree_words(&holding.book).to_vec()).collect()
     }
 }
 

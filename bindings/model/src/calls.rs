@@ -1,10 +1,10 @@
-//! The public calls: refusals in document 01's order, then what the call gives. `Err` holds the refusal's number.
+//! The public calls: refusals in the order of documents 01 and 02, then what the call gives. `Err` holds the refusal's number.
 
 use crate::flat::Flat;
 use crate::sheet::{self, is_stale, Exits};
 use crate::stream::{Row, Station};
 use crate::tree::Tree;
-use crate::{book, choose, write, BOOK_WORDS, COMMANDS, MACHINES, NODES, SHEET_WORDS};
+use crate::{book, choose, merge, write, BOOK_WORDS, COMMANDS, MACHINES, NODES, SHEET_WORDS};
 
 /// Refuses where the test does not hold.
 fn ask(number: u32, holds: bool) -> Result<(), u32> {
@@ -79,4 +79,14 @@ pub fn write(tree: &Tree, room: usize) -> Result<Vec<u8>, u32> {
 pub fn choose(tree: &Tree, from: u32, to: u32, first: &[u8], second: &[u8]) -> Result<(u32, usize), u32> {
     let (a, b) = two_states(tree, from, to)?;
     choose::choose(tree, a, b, first, second).ok_or(18)
+}
+
+/// Merge of two books into lists of these lengths: refuses 1, 2, 2, 12, 19; gives the words of the third book and of its sheet.
+pub fn merge(first: &[u32], second: &[u32], book_len: usize, sheet_len: usize) -> Result<(Vec<u32>, Vec<u32>), u32> {
+    ask(1, [first.len(), second.len(), book_len] == [BOOK_WORDS; 3] && sheet_len == SHEET_WORDS)?;
+    let one = book::decode(first).ok_or(2u32)?;
+    let other = book::decode(second).ok_or(2u32)?;
+    ask(12, !one.is_deep() && !other.is_deep())?;
+    let merged = merge::merge(&one, &other).ok_or(19u32)?;
+    Ok((book::encode(&merged), sheet::stale(&merged)))
 }

@@ -1,4 +1,4 @@
-//! A second implementation of the planner, written from document 01, with the readings of docs/DECISIONS.md where document 01 leaves a
+//! A second implementation of the planner, written from documents 01 and 02, with the readings of docs/DECISIONS.md where they leave a
 //! choice. It shares no code with the proved library. The tests of the bindings and the benchmark compare the library with it. It is
 //! written to be read, not to be fast; only `flat` is meant to be fast.
 
@@ -6,6 +6,7 @@ pub mod book;
 pub mod calls;
 pub mod choose;
 pub mod flat;
+pub mod merge;
 pub mod random;
 pub mod sheet;
 pub mod stream;

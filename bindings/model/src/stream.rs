@@ -142,7 +142,7 @@ impl Command {
                 first(&[(11, tree.node(node).owner != tree.node(target).owner)])
             }
             Command::Clear { node, .. } | Command::Start { node } if node_used(node) => 0,
-            Command::Crown { machine, node } => first(&[(8, machine_used(machine) || node_used(node)), (12, is_deep(tree))]),
+            Command::Crown { machine, node } => first(&[(8, machine_used(machine) || node_used(node)), (12, tree.is_deep())]),
             _ => 7,
         }
     }
@@ -151,11 +151,6 @@ impl Command {
 /// The first refusal that holds, or 0.
 fn first(refusals: &[(u32, bool)]) -> u32 {
     refusals.iter().find(|(_, holds)| *holds).map_or(0, |(number, _)| *number)
-}
-
-/// Whether some machine is at the lowest level.
-fn is_deep(tree: &Tree) -> bool {
-    tree.machines_in_use().iter().any(|&m| tree.level(m) == Some(LEVELS))
 }
 
 impl Station {

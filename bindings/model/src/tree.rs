@@ -107,6 +107,11 @@ impl Tree {
         None
     }
 
+    /// Whether some machine is at the lowest level.
+    pub fn is_deep(&self) -> bool {
+        self.machines_in_use().iter().any(|&m| self.level(m) == Some(LEVELS))
+    }
+
     /// The machine itself and all above it.
     pub fn upward(&self, machine: usize) -> Vec<usize> {
         let mut all = vec![machine];

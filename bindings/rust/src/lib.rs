@@ -168,3 +168,21 @@ pub fn choose<'a>(book: &[u32], from: u32, to: u32, first: &'a [u8], second: &'a
     let (which, list) = if which == 0 { (Which::First, first) } else { (Which::Second, second) };
     Refusal::check(number).map(|()| Chosen { which, part: &list[..used as usize] })
 }
+
+/// Makes one book from two, and its sheet, every machine stale: the first book keeps its numbers, the second's machines and nodes move to
+/// the lowest that are unused in the first, and a new root without transitions holds both. The two books may be one and the same.
+pub fn merge(first: &[u32], second: &[u32], book: &mut [u32], sheet: &mut [u32]) -> Result<(), Refusal> {
+    let number = unsafe {
+        raw::himm_merge(
+            first.as_ptr(),
+            first.len(),
+            second.as_ptr(),
+            second.len(),
+            book.as_mut_ptr(),
+            book.len(),
+            sheet.as_mut_ptr(),
+            sheet.len(),
+        )
+    };
+    Refusal::check(number)
+}

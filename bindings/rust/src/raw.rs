@@ -48,4 +48,14 @@ extern "C" {
         which: *mut u32,
         used: *mut u32,
     ) -> u32;
+    pub fn himm_merge(
+        first: *const u32,
+        first_len: usize,
+        second: *const u32,
+        second_len: usize,
+        book: *mut u32,
+        book_len: usize,
+        sheet: *mut u32,
+        sheet_len: usize,
+    ) -> u32;
 }

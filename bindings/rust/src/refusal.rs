@@ -2,7 +2,7 @@
 
 use std::fmt;
 
-/// Why a call was refused. The number of each is document 01's.
+/// Why a call was refused. The number of each is that of documents 01 and 02.
 #[derive(Clone, Copy, Debug, PartialEq, Eq, Hash)]
 #[repr(u32)]
 pub enum Refusal {
@@ -24,11 +24,12 @@ pub enum Refusal {
     NoWay = 16,
     Stops = 17,
     NeitherArrives = 18,
+    TooFewNumbers = 19,
 }
 
 impl Refusal {
     /// Every refusal, the one with number k at place k - 1.
-    pub const ALL: [Refusal; 18] = [
+    pub const ALL: [Refusal; 19] = [
         Refusal::WrongLength,
         Refusal::TornBook,
         Refusal::FalseSheet,
@@ -47,9 +48,10 @@ impl Refusal {
         Refusal::NoWay,
         Refusal::Stops,
         Refusal::NeitherArrives,
+        Refusal::TooFewNumbers,
     ];
 
-    /// The refusal of a number 1 to 18.
+    /// The refusal of a number 1 to 19.
     pub fn of(number: u32) -> Option<Refusal> {
         Refusal::ALL.get((number as usize).wrapping_sub(1)).copied()
     }
@@ -59,12 +61,12 @@ impl Refusal {
         self as u32
     }
 
-    /// What a call returned: 0 is no refusal. The library returns no number over 18.
+    /// What a call returned: 0 is no refusal. The library returns no number over 19.
     pub(crate) fn check(number: u32) -> Result<(), Refusal> {
         if number == 0 {
             return Ok(());
         }
-        Err(Refusal::of(number).expect("a refusal's number is 1 to 18"))
+        Err(Refusal::of(number).expect("a refusal's number is 1 to 19"))
     }
 
     fn meaning(self) -> &'static str {
@@ -87,6 +89,7 @@ impl Refusal {
             Refusal::NoWay => "no list of commands leads there",
             Refusal::Stops => "the station stops",
             Refusal::NeitherArrives => "neither list arrives",
+            Refusal::TooFewNumbers => "the first book has too few unused numbers",
         }
     }
 }

@@ -2,6 +2,7 @@
 
 mod common;
 
+use common::damage::{copy_a_field, hold, words};
 use common::{Holding, View};
 use himm_model::book::{machine_at, node_at};
 use himm_model::random::{Costs, Random, Shape};
@@ -50,14 +51,6 @@ fn wrong_opening(mut holding: Holding) {
     }
 }
 
-/// Words that a field may be given instead of its own.
-fn words(random: &mut Random, old: u32) -> Vec<u32> {
-    let mut all = vec![0, 65535, u32::MAX, old ^ 1, old.wrapping_add(65536), old.wrapping_add(1), old.wrapping_sub(1)];
-    all.extend([random.below(NODES) as u32, (random.below(NODES) as u32) << 16, random.word() as u32]);
-    all.retain(|&word| word != old);
-    all
-}
-
 /// Every word of some small books, changed in several ways.
 #[test]
 fn torn_books_word_by_word() {
@@ -92,22 +85,6 @@ fn torn_books_by_copying() {
     }
 }
 
-/// Copies a root, holder, start, owner, machine below, transition or a whole record over another of its kind.
-fn copy_a_field(random: &mut Random, book: &mut [u32]) {
-    let (m, n) = (machine_at(random.below(MACHINES)), machine_at(random.below(MACHINES)));
-    let (u, v) = (node_at(random.below(NODES)), node_at(random.below(NODES)));
-    match random.below(8) {
-        0 => book[0] = random.below(MACHINES) as u32,
-        1 => book[m] = book[n],
-        2 => book[m + 1] = book[n + 1],
-        3 => book[u] = book[v],
-        4 => book[u + 1] = book[v + 1],
-        5 => book[u + 2 + random.below(COMMANDS)] = book[v + 2 + random.below(COMMANDS)],
-        6 => book.copy_within(v..v + 18, u),
-        _ => book.copy_within(n..n + 2, m),
-    }
-}
-
 /// Machines that hold each other and never come to the root, and chains that are too deep.
 #[test]
 fn rings_and_deep_chains() {
@@ -132,14 +109,6 @@ fn rings_and_deep_chains() {
     deep.book[node_at(8)] = 8;
     assert_eq!(deep.view().book.err(), Some(2));
     compare(&deep, &deep.view(), &mut random);
-}
-
-/// Machine m with the one node m, which holds machine `below`.
-fn hold(book: &mut [u32], m: usize, below: usize) {
-    book[machine_at(below)] = m as u32;
-    book[machine_at(m) + 1] = m as u32;
-    book[node_at(m)] = m as u32;
-    book[node_at(m) + 1] = below as u32;
 }
 
 /// Every word of some sheets, changed in several ways.

@@ -1,6 +1,9 @@
-//! The numbers of the bindings are those of the header.
+//! The numbers and calls of the bindings are those of the header.
+
+use himm::Refusal;
 
 const HEADER: &str = include_str!("../../../include/himm.h");
+const RAW: &str = include_str!("../src/raw.rs");
 
 /// The number that the header defines under a name.
 fn defined(name: &str) -> usize {
@@ -36,4 +39,51 @@ fn limits_and_sizes() {
     for (name, value) in numbers {
         assert_eq!(value, defined(name), "{name}");
     }
+}
+
+/// The header's name of a refusal.
+fn header_name(refusal: Refusal) -> String {
+    let word = |c: char| if c.is_uppercase() { format!("_{c}") } else { c.to_uppercase().to_string() };
+    format!("HIMM{}", format!("{refusal:?}").chars().map(word).collect::<String>())
+}
+
+#[test]
+fn refusals() {
+    let named = |line: &str| line.strip_prefix("  ")?.split_once(" = ").map(|(name, rest)| (name.to_string(), rest.to_string()));
+    let number = |rest: &str| rest.split([',', ' ']).next().and_then(|digits| digits.parse().ok()).expect("a number");
+    let all: Vec<(String, u32)> = HEADER.lines().filter_map(named).map(|(name, rest)| (name, number(&rest))).collect();
+    let ours = Refusal::ALL.map(|refusal| (header_name(refusal), refusal.number()));
+    assert_eq!(all[0], ("HIMM_OK".to_string(), 0));
+    assert_eq!(all[1..], ours);
+}
+
+/// The calls of a text, each with its arguments: a name after a mark, and a list between parentheses.
+fn calls(text: &str, mark: &str) -> Vec<(String, Vec<String>)> {
+    let call = |rest: &str| {
+        let (name, rest) = rest.split_once('(').expect("a list of arguments");
+        let (list, _) = rest.split_once(')').expect("its end");
+        let arguments = list.split(',').map(|a| a.split_whitespace().collect::<Vec<_>>().join(" "));
+        (name.to_string(), arguments.filter(|a| !a.is_empty()).collect())
+    };
+    text.split(mark).skip(1).map(call).collect()
+}
+
+/// An argument of the header as Rust writes it.
+fn in_rust(argument: &str) -> String {
+    let (kind, name) = argument.rsplit_once(' ').expect("a type and a name");
+    let (way, kind, name) = match (name.strip_prefix('*'), kind.strip_prefix("const ")) {
+        (Some(name), Some(kind)) => ("*const ", kind, name),
+        (Some(name), None) => ("*mut ", kind, name),
+        (None, _) => ("", kind, name),
+    };
+    let kind = if kind == "size_t" { "usize".to_string() } else { kind.replace("uint", "u").replace("_t", "") };
+    format!("{name}: {way}{kind}")
+}
+
+#[test]
+fn arguments_of_every_call() {
+    let header = calls(HEADER, "\nuint32_t himm_").into_iter();
+    let header: Vec<_> = header.map(|(name, all)| (name, all.iter().map(|a| in_rust(a)).collect())).collect();
+    assert!(header.len() >= 9);
+    assert_eq!(header, calls(RAW, "pub fn himm_"));
 }

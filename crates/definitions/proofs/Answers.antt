@@ -14,8 +14,8 @@ use Rattle.definitions.specs.Limits.{sheetLength}
 use Rattle.definitions.specs.Tree.{Tree, states}
 use Rattle.definitions.specs.Step.{Arrival, step}
 use Rattle.definitions.specs.Costs.{LeastCost}
-use Rattle.definitions.specs.Sheet.{Rows, rowsOf}
-use Rattle.definitions.specs.Book.{treeOf, WellFormed}
+use Rattle.definitions.specs.Sheet.{Rows, rowsOf, encodeRows}
+use Rattle.definitions.specs.Book.{encode, treeOf, WellFormed}
 use Rattle.definitions.specs.Truth.{TrueSheet}
 use Rattle.definitions.specs.Load.{load}
 use Rattle.definitions.specs.Answer.{Answer, gives, refuses, Refusal, refuse, asks, wants, wantsLeast, asksRoom, InOrder}
@@ -23,6 +23,8 @@ use Rattle.definitions.specs.Calls.{RightLengths, bookRefusals, sheetRef
 use Rattle.definitions.specs.Calls.{OpenSays, LoadAnswer, LoadDone, LoadSays, ExitSays, StepSays, GivesPlan, PlanSays}
 use Rattle.definitions.specs.Choose.{Choice, first, cheaperOf, partOf, placeOf, ChoiceSays, ChooseSays}
 use Rattle.definitions.specs.Write.{written, WriteSays}
+use Rattle.definitions.specs.Open.{openRows}
+use Rattle.definitions.specs.Merge.{mergeRefusals, MergeSays}
 use Rattle.definitions.proofs.Options.{none-some, some-same, true-false, and-true}
 
 -- an answer that gives a value refuses nothing
@@ -192,6 +194,19 @@ open-one t book sheet {k} {j} {book′} {book″} {sheet′} {sheet″} one two 
     (one-outcome (asks 1 (RightLengths book sheet) ∷ []) (λ bad good. bad good, tt)
     {R = λ i. (k ≡ i) × (book′ ≡ book) × (sheet′ ≡ sheet)} {S = λ i. (j ≡ i) × (book″ ≡ book) × (sheet″ ≡ sheet)} one two)
     (λ i (a, b, c) (d, e, f). (a ∙ sym d, b ∙ sym e, c ∙ sym f)) (λ (a, b, c) (d, e, f). (a ∙ sym d, b ∙ sym e, c ∙ sym f))
+
+-- Merge's number and the third's two lists
+pub merge-one : (one-book other-book book sheet : List ℕ) {k j : ℕ} {book′ book″ sheet′ sheet″ : List ℕ} → MergeSays one-book other-book book sheet k book′ sheet′
+    → MergeSays one-book other-book book sheet j book″ sheet″ → (k ≡ j) × (book′ ≡ book″) × (sheet′ ≡ sheet″)
+merge-one one-book other-book book sheet {k} {j} {book′} {book″} {sheet′} {sheet″} one two =
+    both-ways
+    (one-outcome (mergeRefusals one-book other-book book sheet)
+    (λ bad good. bad good, (λ bad good. bad good, (λ bad good. bad good, (λ bad good. bad good, (λ bad good. bad good, tt)))))
+    {R = λ i. (k ≡ i) × (book′ ≡ book) × (sheet′ ≡ sheet)} {S = λ i. (j ≡ i) × (book″ ≡ book) × (sheet″ ≡ sheet)} one two)
+    (λ i (a, b, c) (d, e, f). (a ∙ sym d, b ∙ sym e, c ∙ sym f))
+    (λ (t, made, a, b, c) (u, also, d, e, f).
+    let same : t ≡ u = some-same made also in
+    (a ∙ sym d, b ∙ ap encode same ∙ sym e, c ∙ ap (λ w. encodeRows (openRows w)) same ∙ sym f))
 
 -- Load's answer and book; which names its refreshes write is free
 pub load-one : (book sheet stream : List ℕ) {answer other : LoadAnswer} {book′ book″ sheet′ sheet″ : List ℕ}

@@ -19,3 +19,4 @@ pub mod Opened
 pub mod Tests
 pub mod Mast
 pub mod Answers
+pub mod Merges

@@ -17,6 +17,10 @@ abbrev pub option : {A B : Type 0} → B → (A → B) → Option A → B
 option d f none = d
 option d f (some a) = f a
 
+-- a value, or another where there is none
+abbrev pub orElse : {A : Type 0} → Option A → Option A → Option A
+orElse o p = option p some o
+
 -- o, but nothing where the test holds
 abbrev pub unless : {A : Type 0} → Bool → Option A → Option A
 unless b o = cond b none o

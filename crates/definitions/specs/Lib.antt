@@ -1,4 +1,4 @@
--- The text to believe, in the order of document 01. Each file opens with the part of document 01 that it says.
+-- The text to believe, in the order of documents 01 and 02. Each file opens with the part that it says.
 pub mod Basics
 pub mod Limits
 pub mod Tree
@@ -18,3 +18,4 @@ pub mod Choose
 pub mod Session
 pub mod Demand
 pub mod Mast
+pub mod Merge

@@ -2,6 +2,7 @@
 // nothing (Load's two counts are always stored). A list passes as a pointer and its length.
 ghost use Rattle.definitions.specs.Open.{freshTree, ladderTree};
 ghost use Rattle.definitions.specs.Calls.{OpenSays};
+ghost use Rattle.definitions.specs.Merge.{MergeSays};
 ghost use Rattle.himm.specs.Exports.{LoadReturns, ExitReturns, StepReturns, PlanReturns, WriteReturns, ChooseReturns};
 use choosing::Chosen;
 use exiting::ExitAnswer;
@@ -23,6 +24,20 @@ pub extern "C" fn himm_open_ladder(book: &mut [u32], sheet: &mut [u32]) -> u32
     ensures { λ r. ⌜ OpenSays ladderTree (now (book .entry)) (now (sheet .entry)) r (now (book .exit)) (now (sheet .exit)) ⌝ }
 {
     opening::open_ladder(book, sheet)
+}
+
+// Merge: a third book and its sheet from two books, a new root above both. Refuses 1, 2 (the first book), 2 (the second), 12, 19.
+#[no_mangle]
+pub extern "C" fn himm_merge(
+    first: &[u32],
+    second: &[u32],
+    book: &mut [u32],
+    sheet: &mut [u32],
+) -> u32
+    ensures { λ r. ⌜ MergeSays (now (first .entry)) (now (second .entry)) (now (book .entry)) (now (sheet .entry)) r
+        (now (book .exit)) (now (sheet .exit)) ⌝ }
+{
+    merging::merge(first, second, book, sheet)
 }
 
 // Load: does the commands of a stream up to its end or the first that is refused. Refuses 1, 2, 3, then at a command 4 to 12.

@@ -1,6 +1,8 @@
 //! Each call made twice, by the library and by the model, with everything that it gives and leaves compared.
 #![allow(dead_code)]
 
+pub mod damage;
+
 use himm::raw;
 use himm_model::flat::Flat;
 use himm_model::sheet::{is_stale, is_true, machine_row, node_row, Exits};
@@ -51,6 +53,11 @@ impl Holding {
         all
     }
 
+    /// Words that are no holding's, for a call that writes them all.
+    pub fn untouched() -> Holding {
+        Holding { book: vec![UNTOUCHED; himm::BOOK_WORDS], sheet: vec![UNTOUCHED; himm::SHEET_WORDS] }
+    }
+
     /// A fresh holding with commands and then a refresh loaded into it.
     pub fn loaded(stream: &[u8]) -> Holding {
         let mut all = Holding::fresh();
@@ -91,6 +98,24 @@ impl Holding {
             }
         }
         got
+    }
+
+    /// Merges two books over this holding and compares the answer and every word with the model's; gives the refusal or 0.
+    pub fn merge(&mut self, first: &[u32], second: &[u32]) -> u32 {
+        let before = self.clone();
+        let number = himm::merge(first, second, &mut self.book, &mut self.sheet).err().map_or(0, |r| r.number());
+        match calls::merge(first, second, before.book.len(), before.sheet.len()) {
+            Err(refusal) => {
+                assert_eq!(number, refusal);
+                assert!(*self == before, "a refused merge wrote");
+            }
+            Ok((book, sheet)) => {
+                assert_eq!(number, 0);
+                assert!(self.book == book, "another book");
+                assert!(self.sheet == sheet, "another sheet");
+            }
+        }
+        number
     }
 
     /// The book is the station's; marks are as expected, kept rows keep their words, and the rest is true.

@@ -1,0 +1,37 @@
+//! Ways to damage a book.
+
+use himm_model::book::{machine_at, node_at};
+use himm_model::random::Random;
+use himm_model::{COMMANDS, MACHINES, NODES};
+
+/// Words that a field may be given instead of its own.
+pub fn words(random: &mut Random, old: u32) -> Vec<u32> {
+    let mut all = vec![0, 65535, u32::MAX, old ^ 1, old.wrapping_add(65536), old.wrapping_add(1), old.wrapping_sub(1)];
+    all.extend([random.below(NODES) as u32, (random.below(NODES) as u32) << 16, random.word() as u32]);
+    all.retain(|&word| word != old);
+    all
+}
+
+/// Copies a root, holder, start, owner, machine below, transition or a whole record over another of its kind.
+pub fn copy_a_field(random: &mut Random, book: &mut [u32]) {
+    let (m, n) = (machine_at(random.below(MACHINES)), machine_at(random.below(MACHINES)));
+    let (u, v) = (node_at(random.below(NODES)), node_at(random.below(NODES)));
+    match random.below(8) {
+        0 => book[0] = random.below(MACHINES) as u32,
+        1 => book[m] = book[n],
+        2 => book[m + 1] = book[n + 1],
+        3 => book[u] = book[v],
+        4 => book[u + 1] = book[v + 1],
+        5 => book[u + 2 + random.below(COMMANDS)] = book[v + 2 + random.below(COMMANDS)],
+        6 => book.copy_within(v..v + 18, u),
+        _ => book.copy_within(n..n + 2, m),
+    }
+}
+
+/// Machine m with the one node m, which holds machine `below`.
+pub fn hold(book: &mut [u32], m: usize, below: usize) {
+    book[machine_at(below)] = m as u32;
+    book[machine_at(m) + 1] = m as u32;
+    book[node_at(m)] = m as u32;
+    book[node_at(m) + 1] = below as u32;
+}

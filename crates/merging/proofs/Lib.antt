@@ -1,0 +1,5 @@
+pub mod Flags
+pub mod Beside
+pub mod Transitions
+pub mod Headed
+pub mod Says
