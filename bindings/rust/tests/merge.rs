@@ -225,7 +225,7 @@ fn full_to_the_last_number() {
     third.compare_round_trip(&mut Holding::fresh());
 }
 
-/// A book merged with itself until there are too few numbers, and with one node more until there are too many levels.
+/// A book merged with itself until there are too few numbers, and one merged with the fresh book until there are too many levels.
 #[test]
 fn again_and_again() {
     let (mut twins, mut tower) = (Holding::fresh().book, Holding::fresh().book);

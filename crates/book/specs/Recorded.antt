@@ -7,7 +7,7 @@ use Rattle.definitions.specs.Limits.{bookLength}
 use Rattle.definitions.specs.Tree.{Tree}
 use Rattle.definitions.specs.Book.{machineField, nodeField, machineFields, nodeFields, treeOf}
 
--- the root, the words of the machines under m and of the nodes under n, and those of node n before place k
+-- the book has the tree's root, the words of its machines under m and of its nodes under n, and those of node n before place k
 pub record Recorded (ws : List ℕ) (t : Tree) (m n k : ℕ) : Type 0 where
   pub size : length ws ≡ bookLength
   pub root : treeOf ws .root ≡ t .root

@@ -120,7 +120,7 @@ pub fn counting(book: &[u32], n: u32, x: u32) -> u32
 }
 
 // Makes v the word at place k of machine m's record; every other word stays.
-pub fn set_machine_word(book: &mut [u32], m: u32, k: u32, v: u32)
+fn set_machine_word(book: &mut [u32], m: u32, k: u32, v: u32)
     requires { ⌜ (length (now book) ≡ bookLength) × (m < machines) × (k < machineFields) ⌝ }
     ensures { λ r. ⌜ Holds (now (book .exit)) (withMachineField (treeOf (now (book .entry))) m k v) ⌝ }
 {
@@ -129,7 +129,7 @@ pub fn set_machine_word(book: &mut [u32], m: u32, k: u32, v: u32)
 }
 
 // Makes v the word at place k of node n's record; every other word stays.
-pub fn set_node_word(book: &mut [u32], n: u32, k: u32, v: u32)
+fn set_node_word(book: &mut [u32], n: u32, k: u32, v: u32)
     requires { ⌜ (length (now book) ≡ bookLength) × (n < nodes) × (k < nodeFields) ⌝ }
     ensures { λ r. ⌜ Holds (now (book .exit)) (withNodeField (treeOf (now (book .entry))) n k v) ⌝ }
 {

@@ -11,7 +11,7 @@ use Rattle.definitions.specs.Edit.{firstHolding, refusals, refusal, sing
 use Rattle.definitions.specs.Load.{next, loadF, load, expected}
 use Rattle.definitions.specs.Open.{freshTree}
 use Rattle.definitions.specs.Mast.{mastStream, mastAfter, mastTree}
-use Rattle.definitions.specs.Merge.{ranked, moved, rising, machineMoves, nodeMoves, renumbered, beside, headed, merged}
+use Rattle.definitions.specs.Merge.{ranked, moved, rising, machineMoves, nodeMoves, renumbered, beside, underNewRoot, merged}
 use Rattle.definitions.proofs.Tests.{allUnder}
 use Rattle.definitions.proofs.Worked.{to}
 
@@ -25,7 +25,7 @@ unfolding freshTree single withTransition edited mastStream mastAfter mastTree
 editing = freshTree
 
 unfoldable pub computing : Tree
-unfolding reading editing countBelow ranked moved rising renumbered beside headed merged
+unfolding reading editing countBelow ranked moved rising renumbered beside underNewRoot merged
 computing = freshTree
 
 -- the values of a field at some numbers
@@ -46,7 +46,7 @@ pub record MastTwice (w : Tree) : Type 0 where
   pub root-holder : w .holder 4 ≡ none
   pub root-owns : values (w .owner) (8 ∷ 9 ∷ 12 ∷ []) ≡ some 4 ∷ some 4 ∷ none ∷ []
   pub root-holds : values (w .below) (8 ∷ 9 ∷ []) ≡ some 0 ∷ some 2 ∷ []
-  pub root-moves : (x : ℕ) → (w .transition 8 x ≡ none) × (w .transition 9 x ≡ none)
+  pub root-still : (x : ℕ) → (w .transition 8 x ≡ none) × (w .transition 9 x ≡ none)
   -- the first book at its own numbers
   pub first-starts : values (w .start) (0 ∷ 1 ∷ []) ≡ some 0 ∷ some 10 ∷ []
   pub first-holders : values (w .holder) (0 ∷ 1 ∷ []) ≡ some 8 ∷ some 1 ∷ []
@@ -66,7 +66,7 @@ pub record MastTwice (w : Tree) : Type 0 where
 
 -- the merged tree
 abbrev pub twice : Tree
-twice = headed mastTree mastTree 4 8 9 2
+twice = underNewRoot mastTree mastTree 4 8 9 2
 
 pub twice-merged : merged mastTree mastTree ≡ some twice
 unfolding computing
@@ -83,7 +83,7 @@ merge-worked =
       root-holder = refl;
       root-owns = refl;
       root-holds = refl;
-      root-moves = λ x. (refl, refl);
+      root-still = λ x. (refl, refl);
       first-starts = refl;
       first-holders = refl;
       first-owners = refl;
@@ -113,11 +113,11 @@ pub record FreshMast (w : Tree) : Type 0 where
       ≡ some 0 ∷ some 1 ∷ some 1 ∷ some 1 ∷ some 2 ∷ some 2 ∷ some 3 ∷ some 3 ∷ none ∷ []
   pub moves : values (w .transition 4) (0 ∷ 1 ∷ 2 ∷ []) ≡ none ∷ to 4 1 ∷ to 5 4 ∷ []
 
-pub fresh-merged : merged freshTree mastTree ≡ some (headed freshTree mastTree 3 6 7 1)
+pub fresh-merged : merged freshTree mastTree ≡ some (underNewRoot freshTree mastTree 3 6 7 1)
 unfolding computing
 fresh-merged = refl
 
-pub fresh-worked : FreshMast (headed freshTree mastTree 3 6 7 1)
+pub fresh-worked : FreshMast (underNewRoot freshTree mastTree 3 6 7 1)
 unfolding computing
 fresh-worked =
     record {

@@ -133,6 +133,12 @@ count-more (suc k) p q h n small fails passes =
     (λ (other : n ≡ k → ⊥). omega (arith, count-one (p k) (q k) (h k), count-more k p q h n (omega arith) fails passes))
     (equal-or-not n k)
 
+-- two tests that agree below a limit count alike
+pub count-same : (k : ℕ) (p q : ℕ → Bool) → ((i : ℕ) → i < k → p i ≡ q i) → countBelow k p ≡ countBelow k q
+unfolding countBelow
+count-same zero p q same = refl
+count-same (suc k) p q same = rw (same k (omega arith), count-same k p q (λ i h. same i (omega arith)))
+
 -- no more than all numbers below the limit are counted
 pub count-limit : (k : ℕ) (p : ℕ → Bool) → countBelow k p ≤ k
 unfolding countBelow

@@ -88,8 +88,8 @@ beside t u =
     (λ m. orElse (t .start m) (u .start m)) (λ m. orElse (t .holder m) (u .holder m))
 
 -- the first tree below node a of the new root r, a its start, and the second, whose root moved to s, below r's other node b
-unfoldable pub headed : Tree → Tree → (r a b s : ℕ) → Tree
-headed t u r a b s =
+unfoldable pub underNewRoot : Tree → Tree → (r a b s : ℕ) → Tree
+underNewRoot t u r a b s =
     withHeld (beside (edited (edited t (crown r a)) (add r b)) (renumbered (machineMoves t u) (nodeMoves t u) s u)) b s
 
 -- the merged tree: the new root and its nodes, the lower first, take the next lowest numbers after the second tree's
@@ -98,11 +98,11 @@ merged t u =
     ranked machines (unusedMachine t) (machineCount u) >>= λ r.
     ranked nodes (unusedNode t) (nodeCount u) >>= λ a.
     ranked nodes (unusedNode t) (nodeCount u + 1) >>= λ b.
-    machineMoves t u .to (u .root) >>= λ s. some (headed t u r a b s)
+    machineMoves t u .to (u .root) >>= λ s. some (underNewRoot t u r a b s)
 
 -- ---- the call
 
--- the first tree leaves as many machines as the second has and one, and as many nodes as the second has and two
+-- the first tree leaves unused at least one machine more than the second has, and at least two nodes more
 abbrev pub Enough : Tree → Tree → Type 0
 Enough t u = (machineCount u + 1 ≤ countBelow machines (unusedMachine t)) × (nodeCount u + 2 ≤ countBelow nodes (unusedNode t))
 

@@ -9,10 +9,10 @@ use native.Mathlib.Omega.{arith}
 use lib.Dec.{eqb}
 use borrow.Author.Tests.{eq-eqb, ne-eqb, not-false}
 use Rattle.definitions.specs.Limits.{machines, nodes, commands, levels, absent}
-use Rattle.definitions.specs.Basics.{option, isSome, anyBelow}
+use Rattle.definitions.specs.Basics.{option, isSome}
 use Rattle.definitions.specs.Tree.{Tree, UsedNode, Sound, usedMachine, usedNode, level}
 use Rattle.definitions.specs.Book.{word, treeOf, WellFormed}
-use Rattle.definitions.specs.Edit.{Test, _when_, firstHolding, badMachine, badNode, badCommand, isStart, apart, lowest}
+use Rattle.definitions.specs.Edit.{Test, _when_, firstHolding, badMachine, badNode, badCommand, isStart, apart, lowest, anyLowest}
 use Rattle.definitions.proofs.Options.{decided, true-false, isSome-true}
 use Rattle.definitions.proofs.Path.{same-level}
 use Rattle.definitions.proofs.Words.{present-word, owner-range, start-range, below-range, no-start}
@@ -81,7 +81,7 @@ both-used t n v e fails = let (a, b) = neither (sym e ∙ fails) in (is-used t n
 -- ---- what the words say
 
 -- a word that is not that of an absent number
-there : (o : Option ℕ) → ((n : ℕ) → o ≡ some n → n < absent) → {w : ℕ} → w ≡ word o → not (eqb w absent) ≡ isSome o
+pub there : (o : Option ℕ) → ((n : ℕ) → o ≡ some n → n < absent) → {w : ℕ} → w ≡ word o → not (eqb w absent) ≡ isSome o
 unfolding word
 there none fits {w} e = rw (eq-eqb w absent e)
 there (some n) fits {w} e = let small : n < absent = fits n refl in rw (ne-eqb w absent (λ same. omega arith))
@@ -92,18 +92,18 @@ lowest-used t own = rw own
 
 -- a machine whose start node is the lowest, and no such machine
 pub machine-lowest : (t : Tree) → Sound t → (m : ℕ) → option false (lowest t) (t .start m) ≡ true
-    → anyBelow nodes (lowest t) ≡ true
+    → anyLowest t ≡ true
 machine-lowest t s m e = go (t .start m) refl e
   where
-    go : (o : Option ℕ) → t .start m ≡ o → option false (lowest t) o ≡ true → anyBelow nodes (lowest t) ≡ true
+    go : (o : Option ℕ) → t .start m ≡ o → option false (lowest t) o ≡ true → anyLowest t ≡ true
     go none st e = absurd (true-false e refl)
     go (some f) st e =
         ⊎-elim (λ holds. holds)
         (λ fails. absurd (true-false e (none-below nodes (lowest t) fails f (start-range t s m f st .1))))
-        (decided (anyBelow nodes (lowest t)))
+        (decided (anyLowest t))
 
 pub no-machine-lowest : (t : Tree) → Sound t → ((m : ℕ) → m < machines → option false (lowest t) (t .start m) ≡ false)
-    → anyBelow nodes (lowest t) ≡ false
+    → anyLowest t ≡ false
 no-machine-lowest t s high = below-none nodes (lowest t) (λ n small. go n (t .owner n) refl)
   where
     go : (n : ℕ) (o : Option ℕ) → t .owner n ≡ o → lowest t n ≡ false

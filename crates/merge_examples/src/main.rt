@@ -95,7 +95,7 @@ fn merge_fronts(
     let one = words.first;
     let two = words.second;
     let three = words.book;
-    let rows = words.sheet;
+    let four = words.sheet;
     if first.len() < one {
         return;
     }
@@ -105,7 +105,7 @@ fn merge_fronts(
     if book.len() < three {
         return;
     }
-    if sheet.len() < rows {
+    if sheet.len() < four {
         return;
     }
     io::write_all(STDOUT_FILENO, text);
@@ -113,7 +113,7 @@ fn merge_fronts(
         &first[..one],
         &second[..two],
         &mut book[..three],
-        &mut sheet[..rows],
+        &mut sheet[..four],
     ));
     number(sevens(book));
     number(sevens(sheet));
@@ -134,10 +134,10 @@ fn show_whole(text: &[u8], first: &Book, second: &Book) {
         first,
         second,
         Words {
-            first: 4737,
-            second: 4737,
-            book: 4737,
-            sheet: 2880,
+            first: book::BOOK,
+            second: book::BOOK,
+            book: book::BOOK,
+            sheet: sheet::SHEET,
         },
     );
 }
@@ -232,7 +232,7 @@ fn last_machine(fresh: &Book) {
     show_words(b"machines 62 and 63:", &book, 125, 129);
 }
 
-// Opens fresh and adds the nodes under 62.
+// Opens fresh and adds nodes 1 to 61.
 fn add_nodes(book: &mut Book, sheet: &mut Sheet) {
     make(book, sheet, b"");
     let mut n: u8 = 1;

@@ -51,10 +51,10 @@ abbrev shiftedTo : (ℕ → ℕ) → Arrival → Arrival
 shiftedTo f a = record { node = f (a .node); cost = a .cost }
 
 -- an arrival after another, at the other numbers
-moved-onto : (f : ℕ → ℕ) (a : Arrival) (o : Option Arrival)
+shifted-onto : (f : ℕ → ℕ) (a : Arrival) (o : Option Arrival)
     → (o >>= (λ b. some (shiftedTo f b)) >>= λ b. some (onto (shiftedTo f a) b)) ≡ (o >>= (λ b. some (onto a b)) >>= λ b. some (shiftedTo f b))
-moved-onto f a none = refl
-moved-onto f a (some b) = refl
+shifted-onto f a none = refl
+shifted-onto f a (some b) = refl
 
 -- two properties of the same numbers have the same least number
 same-least : (P Q : ℕ → Type 0) → ((c : ℕ) → P c → Q c) → ((c : ℕ) → Q c → P c) → (o : Option ℕ) → Least P o → Least Q o
@@ -114,7 +114,7 @@ module _ {t u : Tree} (st : Sound t) (su : Sound u) {f g : ℕ → ℕ} (em : Em
           → (o >>= (λ a. some (shiftedTo f a)) >>= λ a. run u (a .node) xs >>= λ b. some (onto a b))
           ≡ (o >>= (λ a. run t (a .node) xs >>= λ b. some (onto a b)) >>= λ a. some (shiftedTo f a))
       go none on = refl
-      go (some a) on = rw (on a refl) (moved-onto f a (run t (a .node) xs))
+      go (some a) on = rw (on a refl) (shifted-onto f a (run t (a .node) xs))
 
   -- a list moves the station between two states in one tree exactly where it does in the other, at the same cost
   embedded-moves : (a b : ℕ) → isState t a ≡ true → (c : ℕ) → ((xs : List ℕ) × Moves t a b xs c) → (xs : List ℕ) × Moves u (f a) (f b) xs c

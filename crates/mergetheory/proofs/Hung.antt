@@ -113,7 +113,7 @@ module _ {t u : Tree} {b : ℕ} (h : Hangs t u b) where
         put-other (beside t u .holder) (u .root) (some b) m other ∙ or-second (u .holder m) (unused-holder t (h .first-sound) m new-machine)
 
   -- node b holds u's root
-  pub hung-below : hung t u b .below b ≡ some (u .root)
+  hung-below : hung t u b .below b ≡ some (u .root)
   hung-below = put-same (beside t u .below) b (some (u .root))
 
   pub hung-holder : hung t u b .holder (u .root) ≡ some b
@@ -127,12 +127,12 @@ module _ {t u : Tree} {b : ℕ} (h : Hangs t u b) where
   first-starts : Stays (t .start) (hung t u b .start)
   first-starts m f e = first-start e ∙ e
 
-  pub first-belows : Stays (t .below) (hung t u b .below)
+  first-belows : Stays (t .below) (hung t u b .below)
   first-belows n m e =
       let own = h .first-sound .holder-used m n (h .first-sound .below-held n m e) in
       first-below (own .1) (λ same. none-some (h .plain) (ap (t .below) (sym same) ∙ e)) ∙ e
 
-  pub first-holders : Stays (t .holder) (hung t u b .holder)
+  first-holders : Stays (t .holder) (hung t u b .holder)
   first-holders m n e = first-holder (h .first-sound .held-used m n e .1) ∙ e
 
   second-owners : Stays (u .owner) (hung t u b .owner)
@@ -141,10 +141,10 @@ module _ {t u : Tree} {b : ℕ} (h : Hangs t u b) where
   second-starts : Stays (u .start) (hung t u b .start)
   second-starts m f e = second-start e ∙ e
 
-  pub second-belows : Stays (u .below) (hung t u b .below)
+  second-belows : Stays (u .below) (hung t u b .below)
   second-belows n m e = second-below (h .second-sound .holder-used m n (h .second-sound .below-held n m e) .1) ∙ e
 
-  pub second-holders : Stays (u .holder) (hung t u b .holder)
+  second-holders : Stays (u .holder) (hung t u b .holder)
   second-holders m n e = second-holder (h .second-sound .held-used m n e .1) (λ same. root-holder (h .second-sound) same e) ∙ e
 
   -- ---- and nothing else is there

@@ -17,7 +17,7 @@ use Rattle.rows.proofs.Open.{open-sheet, open-stale}
 use Rattle.mergetheory.proofs.Merged.{merged-sound, first-costs, second-costs}
 
 -- of the words of the merged tree and of its opened rows
-pub merged-keeps : {first second : List ℕ} → WellFormed first → WellFormed second → (anyLowest (treeOf first) || anyLowest (treeOf second)) ≡ false
+merged-keeps : {first second : List ℕ} → WellFormed first → WellFormed second → (anyLowest (treeOf first) || anyLowest (treeOf second)) ≡ false
     → {w : Tree} → merged (treeOf first) (treeOf second) ≡ some w → MergeLeaves first second (encode w) (encodeRows (openRows w))
 merged-keeps formed formed-u high {w} e =
     let sound : Sound w = merged-sound (formed .sound) (formed-u .sound) high e in

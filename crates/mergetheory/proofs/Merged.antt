@@ -1,7 +1,7 @@
--- The merged tree: when there is one, that it is sound, and that both trees stand in it, so that least costs are the old ones. Assumes nothing.
+-- The merged tree: of which parts it is, that it is sound, and that both trees stand in it, so that least costs are the old ones. Assumes nothing.
 use mathlib.Core.Path.{_≡_, refl, sym, _∙_, ap, subst}
 use mathlib.Core.Logic.{⊎-elim}
-use mathlib.Core.Bool.{Bool, true, false, not, _&&_, _||_}
+use mathlib.Core.Bool.{true, false, not, _&&_, _||_}
 use mathlib.Core.Option.{Option, none, some}
 use Prim.Native.Nat.{ℕ, suc, _+_, _≤_, _<_}
 use native.Mathlib.Omega.{arith}
@@ -13,18 +13,18 @@ use Rattle.definitions.specs.Tree.{Tree, Transition, Sound, usedMachine, usedNo
 use Rattle.definitions.specs.Stream.{add, crown}
 use Rattle.definitions.specs.Edit.{edited, anyLowest, lowest}
 use Rattle.definitions.specs.Merge.{ranked, renumbered, movedTransition, unusedMachine, unusedNode, machineCount, nodeCount}
-use Rattle.definitions.specs.Merge.{machineMoves, nodeMoves, beside, headed, merged, SameCosts}
+use Rattle.definitions.specs.Merge.{machineMoves, nodeMoves, beside, underNewRoot, merged, SameCosts}
 use Rattle.definitions.proofs.Options.{bind-some, none-some, some-same, and-true, isSome-true, isSome-false, put-same, put-other}
 use Rattle.definitions.proofs.Path.{Deep, deep, deep-small, deep-unique, level-deep}
 use Rattle.definitions.proofs.Words.{unused-below, unused-transition}
 use Rattle.definitions.proofs.Commands.{TakenAdd, TakenCrown, neither, none-below}
 use Rattle.definitions.proofs.Kept.{put-some, add-sound, crown-sound}
-use Rattle.mergetheory.proofs.Ranks.{Renumbers, rising-renumbers, HasRank, ranked-some, ranked-exists, beyond, count-under}
+use Rattle.mergetheory.proofs.Ranks.{Renumbers, rising-renumbers, HasRank, ranked-some, beyond, rank-under}
 use Rattle.mergetheory.proofs.Renumbered.{carried, owner-at, below-at, transition-at, start-at, holder-at, deep-moved, renumbered-sound}
 use Rattle.mergetheory.proofs.Hung.{hung, Hangs, hung-sound, hung-holder}
 use Rattle.mergetheory.proofs.Hung.{first-owner, first-below, first-transition, first-start, first-holder}
 use Rattle.mergetheory.proofs.Hung.{second-owner, second-below, second-transition, second-start, second-holder}
-use Rattle.mergetheory.proofs.Stands.{number, number-to, Stands, stands-same}
+use Rattle.mergetheory.proofs.Stands.{goesTo, goes-there, Stands, stands-same}
 
 -- ---- the parts of a merge
 
@@ -33,27 +33,27 @@ pub record Parts (t u w : Tree) : Type 0 where
   pub root : ℕ
   pub first : ℕ
   pub second : ℕ
-  pub moved : ℕ
+  pub top : ℕ
   pub root-rank : ranked machines (unusedMachine t) (machineCount u) ≡ some root
   pub first-rank : ranked nodes (unusedNode t) (nodeCount u) ≡ some first
   pub second-rank : ranked nodes (unusedNode t) (nodeCount u + 1) ≡ some second
-  pub root-moves : machineMoves t u .to (u .root) ≡ some moved
-  pub tree : headed t u root first second moved ≡ w
+  pub root-moves : machineMoves t u .to (u .root) ≡ some top
+  pub tree : underNewRoot t u root first second top ≡ w
 
 -- the first tree below the start node of the new root, which has another node
-abbrev roof : {t u w : Tree} → Parts t u w → Tree
-roof {t} p = edited (edited t (crown (p .root) (p .first))) (add (p .root) (p .second))
+abbrev crownedFirst : {t u w : Tree} → Parts t u w → Tree
+crownedFirst {t} p = edited (edited t (crown (p .root) (p .first))) (add (p .root) (p .second))
 
 -- the second tree at its new numbers
-abbrev shifted : {t u w : Tree} → Parts t u w → Tree
-shifted {t} {u} p = renumbered (machineMoves t u) (nodeMoves t u) (p .moved) u
+abbrev secondTree : {t u w : Tree} → Parts t u w → Tree
+secondTree {t} {u} p = renumbered (machineMoves t u) (nodeMoves t u) (p .top) u
 
--- and the second below the first's other node
+-- and the second below the new root's other node
 abbrev whole : {t u w : Tree} → Parts t u w → Tree
-whole p = hung (roof p) (shifted p) (p .second)
+whole p = hung (crownedFirst p) (secondTree p) (p .second)
 
 -- a merged tree has such parts, and with them it is the merged tree
-pub merged-parts : {t u w : Tree} → merged t u ≡ some w → Parts t u w
+merged-parts : {t u w : Tree} → merged t u ≡ some w → Parts t u w
 unfolding merged
 merged-parts {t} {u} e =
     let (r, er, on) = bind-some (ranked machines (unusedMachine t) (machineCount u)) _ e in
@@ -64,7 +64,7 @@ merged-parts {t} {u} e =
       root = r;
       first = a;
       second = b;
-      moved = s;
+      top = s;
       root-rank = er;
       first-rank = ea;
       second-rank = eb;
@@ -84,12 +84,6 @@ free-parts limit k o e =
     let (range, unused) = and-true (ltb k limit) (not (isSome o)) e in
     (ltb-true k limit range, isSome-false o (not-true (isSome o) unused))
 
--- there are more of them than one of them has below it
-enough : (limit : ℕ) (q : ℕ → Bool) (j : ℕ) {k : ℕ} → ranked limit q j ≡ some k → j ≤ countBelow limit q
-enough limit q j {k} e =
-    let at = ranked-some limit q j e in
-    omega (arith, count-under q limit k (at .range) (at .passes))
-
 -- the second tree's machines and nodes move
 module _ (t : Tree) {u : Tree} (su : Sound u) where
   pub machines-move : machineCount u ≤ countBelow machines (unusedMachine t) → Renumbers (machineMoves t u) (usedMachine u) (unusedMachine t)
@@ -102,30 +96,9 @@ module _ (t : Tree) {u : Tree} (su : Sound u) where
       rising-renumbers nodes (usedNode u) (unusedNode t)
       (λ d e. let (m, own) = isSome-true (u .owner d) e in su .node-range d m own) (λ d e. free-parts nodes d (t .owner d) e .0)
 
-  -- with enough numbers there is a merged tree, of such parts
-  pub merged-exists : machineCount u + 1 ≤ countBelow machines (unusedMachine t) → nodeCount u + 2 ≤ countBelow nodes (unusedNode t)
-      → (w : Tree) × (merged t u ≡ some w) × Parts t u w
-  merged-exists machine-room node-room =
-      let (r, er) = ranked-exists machines (unusedMachine t) (machineCount u) (omega arith) in
-      let (a, ea) = ranked-exists nodes (unusedNode t) (nodeCount u) (omega arith) in
-      let (b, eb) = ranked-exists nodes (unusedNode t) (nodeCount u + 1) (omega arith) in
-      let (s, es) = machines-move (omega arith) .moves (u .root) (rw (su .root-used .1)) in
-      let p : Parts t u (headed t u r a b s) = record {
-        root = r;
-        first = a;
-        second = b;
-        moved = s;
-        root-rank = er;
-        first-rank = ea;
-        second-rank = eb;
-        root-moves = es;
-        tree = refl;
-      } in
-      (headed t u r a b s, parts-merged p, p)
-
 -- ---- room below a new root
 
--- no node stands at the lowest level where the tree is not full
+-- no node stands at the lowest level where the test finds none
 not-lowest : (t : Tree) → anyLowest t ≡ false → (n m : ℕ) → n < nodes → t .owner n ≡ some m → level t n ≡ levels → ⊥
 not-lowest t off n m small own = eqb-false (level t n) levels (rw own at (none-below nodes (lowest t) off n small))
 
@@ -196,7 +169,7 @@ module _ {t u : Tree} (st : Sound t) (su : Sound u) (high : anyLowest t ≡ fals
         node-new = put-other (t .owner) (p .first) (some (p .root)) (p .second) two-nodes ∙ second-new;
       }
 
-  roof-sound : Sound (roof p)
+  roof-sound : Sound (crownedFirst p)
   roof-sound = add-sound (crown-sound st crown-taken) add-taken
 
   -- no number of the first tree is new, so its fields are there as they were
@@ -207,13 +180,13 @@ module _ {t u : Tree} (st : Sound t) (su : Sound u) (high : anyLowest t ≡ fals
     not-second : n ≡ p .second → ⊥
     not-second same = none-some second-new (ap (t .owner) (sym same) ∙ own)
 
-    roof-owner : roof p .owner n ≡ t .owner n
+    roof-owner : crownedFirst p .owner n ≡ t .owner n
     unfolding edited
     roof-owner =
         put-other (put (t .owner) (p .first) (some (p .root))) (p .second) (some (p .root)) n not-second
         ∙ put-other (t .owner) (p .first) (some (p .root)) n not-first
 
-    roof-below : roof p .below n ≡ t .below n
+    roof-below : crownedFirst p .below n ≡ t .below n
     unfolding edited
     roof-below = put-other (t .below) (p .first) (some (t .root)) n not-first
 
@@ -221,12 +194,12 @@ module _ {t u : Tree} (st : Sound t) (su : Sound u) (high : anyLowest t ≡ fals
     not-root : m ≡ p .root → ⊥
     not-root same = none-some root-new (ap (t .start) (sym same) ∙ used)
 
-    roof-start : roof p .start m ≡ t .start m
+    roof-start : crownedFirst p .start m ≡ t .start m
     unfolding edited
     roof-start = put-other (t .start) (p .root) (some (p .first)) m not-root
 
   -- the new root's start is one of its nodes
-  first-owned : roof p .owner (p .first) ≡ some (p .root)
+  first-owned : crownedFirst p .owner (p .first) ≡ some (p .root)
   unfolding edited
   first-owned =
       put-other (put (t .owner) (p .first) (some (p .root))) (p .second) (some (p .root)) (p .first) (λ same. two-nodes (sym same))
@@ -236,12 +209,12 @@ module _ {t u : Tree} (st : Sound t) (su : Sound u) (high : anyLowest t ≡ fals
 
   -- its machines and nodes move, and so it is sound there
   machines-moved : Renumbers (machineMoves t u) (usedMachine u) (unusedMachine t)
-  machines-moved = machines-move t su (enough machines (unusedMachine t) (machineCount u) (p .root-rank))
+  machines-moved = machines-move t su (omega (arith, rank-under machines (unusedMachine t) (machineCount u) (p .root-rank)))
 
   nodes-moved : Renumbers (nodeMoves t u) (usedNode u) (unusedNode t)
-  nodes-moved = nodes-move t su (enough nodes (unusedNode t) (nodeCount u) (p .first-rank))
+  nodes-moved = nodes-move t su (omega (arith, rank-under nodes (unusedNode t) (nodeCount u) (p .first-rank)))
 
-  shift-sound : Sound (shifted p)
+  shift-sound : Sound (secondTree p)
   shift-sound =
       renumbered-sound su machines-moved nodes-moved (p .root-moves) (λ m e. free-parts machines m (t .start m) e .0)
       (λ n e. free-parts nodes n (t .owner n) e .0)
@@ -259,7 +232,7 @@ module _ {t u : Tree} (st : Sound t) (su : Sound u) (high : anyLowest t ≡ fals
   -- ---- one below the other
 
   -- the second tree can be hung below the new root's other node: no number is in use in both
-  hangs : Hangs (roof p) (shifted p) (p .second)
+  hangs : Hangs (crownedFirst p) (secondTree p) (p .second)
   unfolding edited renumbered
   hangs =
       record {
@@ -283,7 +256,7 @@ module _ {t u : Tree} (st : Sound t) (su : Sound u) (high : anyLowest t ≡ fals
       }
 
   -- no machine of the second comes too deep
-  shift-room : (m f k : ℕ) → shifted p .start m ≡ some f → Deep (shifted p) m k → k + 1 < levels
+  shift-room : (m f k : ℕ) → secondTree p .start m ≡ some f → Deep (secondTree p) m k → k + 1 < levels
   unfolding renumbered
   shift-room m f k used way =
       let c = carried (machineMoves t u .from) (u .start) (nodeMoves t u .to) m used in
@@ -341,29 +314,29 @@ module _ {t u : Tree} (st : Sound t) (su : Sound u) (high : anyLowest t ≡ fals
   -- ---- and the second, at its new numbers
 
   -- where its nodes and machines move
-  node-to : {n m : ℕ} → u .owner n ≡ some m → nodeMoves t u .to n ≡ some (number (nodeMoves t u .to) n)
-  node-to {n} own = number-to (nodeMoves t u .to) n (nodes-moved .moves n (rw own) .1)
+  node-to : {n m : ℕ} → u .owner n ≡ some m → nodeMoves t u .to n ≡ some (goesTo (nodeMoves t u .to) n)
+  node-to {n} own = goes-there (nodeMoves t u .to) n (nodes-moved .moves n (rw own) .1)
 
-  machine-to : {m f : ℕ} → u .start m ≡ some f → machineMoves t u .to m ≡ some (number (machineMoves t u .to) m)
-  machine-to {m} used = number-to (machineMoves t u .to) m (machines-moved .moves m (rw used) .1)
+  machine-to : {m f : ℕ} → u .start m ≡ some f → machineMoves t u .to m ≡ some (goesTo (machineMoves t u .to) m)
+  machine-to {m} used = goes-there (machineMoves t u .to) m (machines-moved .moves m (rw used) .1)
 
   -- what the second tree at its new numbers says there
   module _ {n m : ℕ} (own : u .owner n ≡ some m) where
-    shift-owner : shifted p .owner (number (nodeMoves t u .to) n) ≡ (u .owner n >>= machineMoves t u .to)
-    shift-owner = owner-at nodes-moved (machineMoves t u) (p .moved) u (node-to own)
+    shift-owner : secondTree p .owner (goesTo (nodeMoves t u .to) n) ≡ (u .owner n >>= machineMoves t u .to)
+    shift-owner = owner-at nodes-moved (machineMoves t u) (p .top) u (node-to own)
 
-    shift-owned : shifted p .owner (number (nodeMoves t u .to) n) ≡ some (number (machineMoves t u .to) m)
+    shift-owned : secondTree p .owner (goesTo (nodeMoves t u .to) n) ≡ some (goesTo (machineMoves t u .to) m)
     shift-owned = shift-owner ∙ rw own (machine-to (su .owner-used n m own .1))
 
   module _ {m f : ℕ} (used : u .start m ≡ some f) where
-    shift-start : shifted p .start (number (machineMoves t u .to) m) ≡ (u .start m >>= nodeMoves t u .to)
-    shift-start = start-at machines-moved (nodeMoves t u) (p .moved) u (machine-to used)
+    shift-start : secondTree p .start (goesTo (machineMoves t u .to) m) ≡ (u .start m >>= nodeMoves t u .to)
+    shift-start = start-at machines-moved (nodeMoves t u) (p .top) u (machine-to used)
 
-    shift-used : shifted p .start (number (machineMoves t u .to) m) ≡ some (number (nodeMoves t u .to) f)
+    shift-used : secondTree p .start (goesTo (machineMoves t u .to) m) ≡ some (goesTo (nodeMoves t u .to) f)
     shift-used = shift-start ∙ rw used (node-to (su .start-owned m f used))
 
     -- only the root moves to the number of the root
-    shift-root : number (machineMoves t u .to) m ≡ p .moved → m ≡ u .root
+    shift-root : goesTo (machineMoves t u .to) m ≡ p .top → m ≡ u .root
     shift-root same = some-same (machines-moved .back (machine-to used ∙ ap {B = Option ℕ} some same)) (machines-moved .back (p .root-moves))
 
   second-stands : Stands u (whole p) (nodeMoves t u .to) (machineMoves t u .to)
@@ -374,13 +347,13 @@ module _ {t u : Tree} (st : Sound t) (su : Sound u) (high : anyLowest t ≡ fals
         machine-to = λ {m} used. machine-to used;
         one = λ {n} e f. some-same (nodes-moved .back e) (nodes-moved .back f);
         owner = λ {n} own. second-owner hangs (shift-owned own) ∙ shift-owner own;
-        below = λ {n} own. second-below hangs (shift-owned own) ∙ below-at nodes-moved (machineMoves t u) (p .moved) u (node-to own);
+        below = λ {n} own. second-below hangs (shift-owned own) ∙ below-at nodes-moved (machineMoves t u) (p .top) u (node-to own);
         transition = λ {n} own x.
-            second-transition hangs (shift-owned own) x ∙ transition-at nodes-moved (machineMoves t u) (p .moved) u (node-to own) x;
+            second-transition hangs (shift-owned own) x ∙ transition-at nodes-moved (machineMoves t u) (p .top) u (node-to own) x;
         start = λ {m} used. second-start hangs (shift-used used) ∙ shift-start used;
         holder = λ {m} used other.
             second-holder hangs (shift-used used) (λ same. other (shift-root used same))
-            ∙ holder-at machines-moved (nodeMoves t u) (p .moved) u (machine-to used);
+            ∙ holder-at machines-moved (nodeMoves t u) (p .top) u (machine-to used);
         apart = λ {m} used same. none-some not-to-root (ap (machineMoves t u .from) (sym same) ∙ machines-moved .back (machine-to used));
         top = p .second;
         held = ap (whole p .holder) (some-same (machine-to (su .root-used .1)) (p .root-moves)) ∙ hung-holder hangs;
@@ -393,7 +366,7 @@ module _ {t u : Tree} (st : Sound t) (su : Sound u) (high : anyLowest t ≡ fals
 module _ {t u : Tree} (st : Sound t) (su : Sound u) (high : (anyLowest t || anyLowest u) ≡ false) {w : Tree} (e : merged t u ≡ some w) where
   -- what holds of the tree put together holds of the merged tree
   of-merged : (P : Tree → Type 0) → ((p : Parts t u w) → P (whole p)) → P w
-  unfolding headed renumbered
+  unfolding underNewRoot renumbered
   of-merged P holds = let p = merged-parts e in subst P (p .tree) (holds p)
 
   -- the merged tree is sound

@@ -14,6 +14,7 @@ use Rattle.definitions.specs.Basics.{countBelow}
 use Rattle.definitions.specs.Merge.{ranked, moved, Renumbering, rising}
 use Rattle.definitions.proofs.Options.{none-some, some-same, true-false, decided, equal-or-not}
 use Rattle.definitions.proofs.Lists.{no-value}
+use Rattle.definitions.proofs.Simple.{count-same}
 
 -- ---- how many numbers pass
 
@@ -37,13 +38,13 @@ count-under p (suc k) d h e =
     (equal-or-not d k)
 
 -- no number is counted below 0
-none-below : (p : ℕ → Bool) {j : ℕ} → j < countBelow 0 p → ⊥
+count-zero : (p : ℕ → Bool) {j : ℕ} → j < countBelow 0 p → ⊥
 unfolding countBelow
-none-below p h = omega arith
+count-zero p h = omega arith
 
 -- ---- the number of a rank
 
--- a number that passes has its own rank; where it has another or does not pass, a lower one has the rank
+-- a number that passes has its own rank; where it has another or does not pass, the rank is that of a lower one, if any has it
 ranked-here : (k : ℕ) (p : ℕ → Bool) (j : ℕ) → p k ≡ true → countBelow k p ≡ j → ranked (suc k) p j ≡ some k
 unfolding ranked
 ranked-here k p j on e = rw (on, eq-eqb (countBelow k p) j e)
@@ -97,7 +98,7 @@ ranked-at (suc l) p k h e =
 
 -- there are as many ranks as numbers that pass
 pub ranked-exists : (limit : ℕ) (p : ℕ → Bool) (j : ℕ) → j < countBelow limit p → (k : ℕ) × (ranked limit p j ≡ some k)
-ranked-exists zero p j h = absurd (none-below p h)
+ranked-exists zero p j h = absurd (count-zero p h)
 ranked-exists (suc l) p j h =
     ⊎-elim (λ here. (l, ranked-here l p j (here .0) (here .1)))
     (λ lower. let (k, e) = ranked-exists l p j (fewer (decided (p l)) lower) in (k, lower ∙ e)) (ranked-step l p j)
@@ -110,13 +111,15 @@ ranked-exists (suc l) p j h =
         fresh same = let placed = ranked-some l p j (sym lower ∙ ranked-here l p j on same) in omega (arith, placed .range)
     fewer (inr off) lower = omega (arith, count-skip p l off)
 
--- and no more
+-- more numbers pass than one of them has below it
+pub rank-under : (limit : ℕ) (p : ℕ → Bool) (j : ℕ) {k : ℕ} → ranked limit p j ≡ some k → j < countBelow limit p
+rank-under limit p j {k} e =
+    let at = ranked-some limit p j e in
+    omega (arith, count-under p limit k (at .range) (at .passes), at .rank)
+
+-- so there are no more ranks
 pub ranked-none : (limit : ℕ) (p : ℕ → Bool) (j : ℕ) → countBelow limit p ≤ j → ranked limit p j ≡ none
-ranked-none limit p j h =
-    no-value (ranked limit p j)
-    (λ k e.
-    let placed = ranked-some limit p j e in
-    omega (arith, count-under p limit k (placed .range) (placed .passes), placed .rank))
+ranked-none limit p j h = no-value (ranked limit p j) (λ k e. omega (arith, rank-under limit p j e))
 
 -- so where none has a rank, none has the next
 pub none-on : (limit : ℕ) (p : ℕ → Bool) (j : ℕ) → ranked limit p j ≡ none → ranked limit p (suc j) ≡ none
@@ -172,7 +175,7 @@ rising-renumbers limit p q small high enough =
       again = λ {d} {k} e. moved-back limit q p high k e;
     }
 
--- a number that has more than all that move below it is not moved to
+-- no number moves to one that has at least as many free ones below it as there are numbers that move
 pub beyond : (limit : ℕ) (p q : ℕ → Bool) (k : ℕ) → countBelow limit p ≤ countBelow k q → rising limit p q .from k ≡ none
 unfolding rising
 beyond limit p q k h =
@@ -180,12 +183,7 @@ beyond limit p q k h =
 
 -- ---- tests that agree under the limit
 
--- count, rank and move the same numbers
-pub count-same : (limit : ℕ) (p q : ℕ → Bool) → ((i : ℕ) → i < limit → p i ≡ q i) → countBelow limit p ≡ countBelow limit q
-unfolding countBelow
-count-same zero p q same = refl
-count-same (suc l) p q same = rw (same l (omega arith), count-same l p q (λ i h. same i (omega arith)))
-
+-- give ranks to the same numbers and move them alike
 pub ranked-same : (limit : ℕ) (p q : ℕ → Bool) (j : ℕ) → ((i : ℕ) → i < limit → p i ≡ q i) → ranked limit p j ≡ ranked limit q j
 unfolding ranked
 ranked-same zero p q j same = refl

@@ -30,7 +30,7 @@ carried from f to k e =
     record { number = d; value = a; came = came; had = had; goes = goes }
 
 -- and back
-pub carry : (from f to : ℕ → Option ℕ) (k : ℕ) {d a v : ℕ} → from k ≡ some d → f d ≡ some a → to a ≡ some v → (from k >>= f >>= to) ≡ some v
+carry : (from f to : ℕ → Option ℕ) (k : ℕ) {d a v : ℕ} → from k ≡ some d → f d ≡ some a → to a ≡ some v → (from k >>= f >>= to) ≡ some v
 carry from f to k came had goes = rw (came, had) goes
 
 -- two fields that lead back and forth still do
@@ -73,10 +73,10 @@ module _ {ms : Renumbering} {pm qm : ℕ → Bool} (rm : Renumbers ms pm qm) (ns
 module _ {t : Tree} (s : Sound t) {ms ns : Renumbering} {qm qn : ℕ → Bool} (rm : Renumbers ms (usedMachine t) qm)
     (rn : Renumbers ns (usedNode t) qn) where
   -- machines and nodes in use move
-  pub machine-moves : {m f : ℕ} → t .start m ≡ some f → (k : ℕ) × (ms .to m ≡ some k)
+  machine-moves : {m f : ℕ} → t .start m ≡ some f → (k : ℕ) × (ms .to m ≡ some k)
   machine-moves {m} used = rm .moves m (rw used)
 
-  pub node-moves : {n m : ℕ} → t .owner n ≡ some m → (k : ℕ) × (ns .to n ≡ some k)
+  node-moves : {n m : ℕ} → t .owner n ≡ some m → (k : ℕ) × (ns .to n ≡ some k)
   node-moves {n} own = rn .moves n (rw own)
 
   module _ {r : ℕ} (top : ms .to (t .root) ≡ some r) where
@@ -104,7 +104,7 @@ module _ {t : Tree} (s : Sound t) {ms ns : Renumbering} {qm qn : ℕ → Bool} (
         (carry (ns .from) (t .owner) (ms .to) i (rn .back node) up above) (deep-moved way q above)
 
     -- a transition is one that moved
-    pub transition-came : (n x : ℕ) (a : Transition) → renumbered ms ns r t .transition n x ≡ some a
+    transition-came : (n x : ℕ) (a : Transition) → renumbered ms ns r t .transition n x ≡ some a
         → (k : ℕ) × (b : Transition) × (ns .from n ≡ some k) × (t .transition k x ≡ some b) × (ns .to (b .target) ≡ some (a .target))
         × (b .cost ≡ a .cost)
     unfolding renumbered

@@ -16,31 +16,31 @@ use Rattle.definitions.proofs.Lists.{no-value}
 use Rattle.mergetheory.proofs.Embedded.{Embeds, embedded-state, embedded-cost, unembedded-cost}
 
 -- the number to which a number moves
-abbrev pub number : (ℕ → Option ℕ) → ℕ → ℕ
-number to n = option 0 (λ k. k) (to n)
+abbrev pub goesTo : (ℕ → Option ℕ) → ℕ → ℕ
+goesTo to n = option 0 (λ k. k) (to n)
 
 -- a number that moves goes there
-pub number-to : (to : ℕ → Option ℕ) (n : ℕ) {k : ℕ} → to n ≡ some k → to n ≡ some (number to n)
-number-to to n e = rw e
+pub goes-there : (to : ℕ → Option ℕ) (n : ℕ) {k : ℕ} → to n ≡ some k → to n ≡ some (goesTo to n)
+goes-there to n e = rw e
 
 -- Nodes of tree t move by one function and machines by another. Tree w says of the number of a node or machine in use what t says of the node
 -- or machine, moved; only t's root, which nothing holds in t, is held in w by a node of w's root, one without transitions.
 pub record Stands (t w : Tree) (node machine : ℕ → Option ℕ) : Type 0 where
-  pub node-to : {n m : ℕ} → t .owner n ≡ some m → node n ≡ some (number node n)
-  pub machine-to : {m f : ℕ} → t .start m ≡ some f → machine m ≡ some (number machine m)
+  pub node-to : {n m : ℕ} → t .owner n ≡ some m → node n ≡ some (goesTo node n)
+  pub machine-to : {m f : ℕ} → t .start m ≡ some f → machine m ≡ some (goesTo machine m)
   pub one : {n i k : ℕ} → node n ≡ some k → node i ≡ some k → n ≡ i
-  pub owner : {n m : ℕ} → t .owner n ≡ some m → w .owner (number node n) ≡ (t .owner n >>= machine)
-  pub below : {n m : ℕ} → t .owner n ≡ some m → w .below (number node n) ≡ (t .below n >>= machine)
-  pub transition : {n m : ℕ} → t .owner n ≡ some m → (x : ℕ) → w .transition (number node n) x ≡ (t .transition n x >>= movedTransition node)
-  pub start : {m f : ℕ} → t .start m ≡ some f → w .start (number machine m) ≡ (t .start m >>= node)
-  pub holder : {m f : ℕ} → t .start m ≡ some f → (m ≡ t .root → ⊥) → w .holder (number machine m) ≡ (t .holder m >>= node)
-  pub apart : {m f : ℕ} → t .start m ≡ some f → number machine m ≡ w .root → ⊥
+  pub owner : {n m : ℕ} → t .owner n ≡ some m → w .owner (goesTo node n) ≡ (t .owner n >>= machine)
+  pub below : {n m : ℕ} → t .owner n ≡ some m → w .below (goesTo node n) ≡ (t .below n >>= machine)
+  pub transition : {n m : ℕ} → t .owner n ≡ some m → (x : ℕ) → w .transition (goesTo node n) x ≡ (t .transition n x >>= movedTransition node)
+  pub start : {m f : ℕ} → t .start m ≡ some f → w .start (goesTo machine m) ≡ (t .start m >>= node)
+  pub holder : {m f : ℕ} → t .start m ≡ some f → (m ≡ t .root → ⊥) → w .holder (goesTo machine m) ≡ (t .holder m >>= node)
+  pub apart : {m f : ℕ} → t .start m ≡ some f → goesTo machine m ≡ w .root → ⊥
   pub top : ℕ
-  pub held : w .holder (number machine (t .root)) ≡ some top
+  pub held : w .holder (goesTo machine (t .root)) ≡ some top
   pub top-owner : w .owner top ≡ some (w .root)
   pub top-free : (x : ℕ) → w .transition top x ≡ none
 
--- ---- the two definitions that look at more than a field
+-- ---- the two definitions that a step goes by
 
 -- the transition that counts moves where the transition does
 counting-moves : (t w : Tree) (to : ℕ → Option ℕ) (n k x : ℕ) → w .transition k x ≡ (t .transition n x >>= movedTransition to)
@@ -60,11 +60,11 @@ leaving-same t w m k = leaving-free w k ∙ sym (leaving-free t m)
 
 module _ {t w : Tree} (st : Sound t) {node machine : ℕ → Option ℕ} (s : Stands t w node machine) where
   -- the transition that counts for a command at a node's number
-  counts-there : {n m : ℕ} → t .owner n ≡ some m → (x : ℕ) → counting w (number node n) x ≡ (counting t n x >>= movedTransition node)
-  counts-there {n} own x = counting-moves t w node n (number node n) x (s .transition own x)
+  counts-there : {n m : ℕ} → t .owner n ≡ some m → (x : ℕ) → counting w (goesTo node n) x ≡ (counting t n x >>= movedTransition node)
+  counts-there {n} own x = counting-moves t w node n (goesTo node n) x (s .transition own x)
 
   -- the tree is embedded
-  stands-embeds : Embeds t w (number node) (number machine)
+  stands-embeds : Embeds t w (goesTo node) (goesTo machine)
   stands-embeds =
       record {
         owner = λ n m own. s .owner own ∙ rw own (s .machine-to (st .owner-used n m own .1));
@@ -79,7 +79,7 @@ module _ {t w : Tree} (st : Sound t) {node machine : ℕ → Option ℕ} (s : St
             let (m, own, there) = st .transition-owned n x a (counting-is t n x a e) in
             counts-there own x ∙ rw (e, s .node-to there);
         counts-not = λ n m x own e. counts-there own x ∙ rw e;
-        leaves = λ m n e. leaving-same t w m (number machine m);
+        leaves = λ m n e. leaving-same t w m (goesTo machine m);
         apart = λ m f e. s .apart e;
         one = λ n m k j own other same. s .one (s .node-to own ∙ ap {B = Option ℕ} some same) (s .node-to other);
         top = s .top;
@@ -89,14 +89,14 @@ module _ {t w : Tree} (st : Sound t) {node machine : ℕ → Option ℕ} (s : St
       }
 
   -- a state's number
-  state-to : (n : ℕ) → isState t n ≡ true → node n ≡ some (number node n)
+  state-to : (n : ℕ) → isState t n ≡ true → node n ≡ some (goesTo node n)
   state-to n e = s .node-to (state-parts t n e .1)
 
   -- and so costs are the same
   pub stands-same : Sound w → SameCosts t w node
   stands-same sw =
       record {
-        state = λ n e. (number node n, state-to n e, embedded-state st sw stands-embeds n e);
+        state = λ n e. (goesTo node n, state-to n e, embedded-state st sw stands-embeds n e);
         there = λ a b c d o sa sb ac bd least.
             subst₂ (λ (i j : ℕ). LeastCost w i j o) (some-same (state-to a sa) ac) (some-same (state-to b sb) bd)
             (embedded-cost st sw stands-embeds a b o sa sb least);

@@ -1,4 +1,4 @@
--- W-201's claim speaks of a merge that is done: that of the mast book with itself. Assumes nothing.
+-- W-201's claim is not empty: the mast book merged with itself meets its hypothesis. Assumes nothing.
 use mathlib.Core.Path.{_≡_, refl}
 use mathlib.Core.Logic.{inr}
 use mathlib.Core.Bool.{false, _||_}

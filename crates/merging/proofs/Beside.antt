@@ -27,12 +27,12 @@ abbrev pub Small : ℕ → Option ℕ → Type 0
 Small limit o = (n : ℕ) → o ≡ some n → n < limit
 
 -- a word that is not absent is a number under the limit
-pub under : (limit : ℕ) {w : ℕ} (o : Option ℕ) → Small limit o → w ≡ word o → (w ≡ absent → ⊥) → w < limit
-under limit {w} o small said other = small w (present-word o said other)
+pub present-small : (limit : ℕ) {w : ℕ} (o : Option ℕ) → Small limit o → w ≡ word o → (w ≡ absent → ⊥) → w < limit
+present-small limit {w} o small said other = small w (present-word o said other)
 
 -- an absent one is none
-pub nothing : {limit w : ℕ} (o : Option ℕ) → limit < absent → Small limit o → w ≡ word o → w ≡ absent → o ≡ none
-nothing o fits small said at = absent-word o (λ n e. omega (arith, small n e)) said at
+pub absent-none : {limit w : ℕ} (o : Option ℕ) → limit < absent → Small limit o → w ≡ word o → w ≡ absent → o ≡ none
+absent-none o fits small said at = absent-word o (λ n e. omega (arith, small n e)) said at
 
 -- The words X of records of one kind, at one place: each is of the first's number, or else of the number that the second has there for the record
 -- that moved to it, moved too. Numbers in the records are under one limit, the records' own under another.
@@ -56,24 +56,24 @@ module _ {X : ℕ → ℕ} {mine other from to : ℕ → Option ℕ} {limit size
     pub none-word : d ≡ absent → absent ≡ X i
     unfolding word
     none-word at =
-        sym (j .says i ∙ rw (nothing (mine i) (j .fits) (j .mine-small i) said off, nothing (from i) (j .room) (j .from-small i) came at))
+        sym (j .says i ∙ rw (absent-none (mine i) (j .fits) (j .mine-small i) said off, absent-none (from i) (j .room) (j .from-small i) came at))
 
     -- the number of the one that moved there
     pub from-under : (d ≡ absent → ⊥) → d < size
-    from-under present = under size (from i) (j .from-small i) came present
+    from-under present = present-small size (from i) (j .from-small i) came present
 
     -- its word, and that moved
     pub other-under : {w : ℕ} → w ≡ word (other d) → (w ≡ absent → ⊥) → w < limit
-    other-under {w} told present = under limit (other d) (j .other-small d) told present
+    other-under {w} told present = present-small limit (other d) (j .other-small d) told present
 
     pub moved-number : {w r : ℕ} {list : List ℕ} → (d ≡ absent → ⊥) → w ≡ word (other d) → Tells limit to list
         → r ≡ cond (eqb w absent) absent (getD list w 0) → r ≡ X i
     unfolding word
     moved-number {w} {r} {list} present told tells result =
-        rw (j .says i) (rw (nothing (mine i) (j .fits) (j .mine-small i) said off, present-word (from i) came present) (result ∙ go (equal-or-not w absent)))
+        rw (j .says i) (rw (absent-none (mine i) (j .fits) (j .mine-small i) said off, present-word (from i) came present) (result ∙ go (equal-or-not w absent)))
       where
         go : (w ≡ absent) ⊎ (w ≡ absent → ⊥) → cond (eqb w absent) absent (getD list w 0) ≡ word (other d >>= to)
-        go (inl at) = rw (eq-eqb w absent at, nothing (other d) (j .fits) (j .other-small d) told at)
+        go (inl at) = rw (eq-eqb w absent at, absent-none (other d) (j .fits) (j .other-small d) told at)
         go (inr not) = rw (ne-eqb w absent not, present-word (other d) told not) (tells .word w (other-under told not))
 
 -- ---- machines and nodes
@@ -96,11 +96,11 @@ node-number t n zero h = refl
 node-number t n (suc zero) h = refl
 node-number t n (suc (suc k)) h = absurd (omega arith)
 
-pub machine-small : (t : Tree) → Sound t → (m k : ℕ) → Small nodes (machineNumber t m k)
+machine-small : (t : Tree) → Sound t → (m k : ℕ) → Small nodes (machineNumber t m k)
 machine-small t s m zero n e = holder-range t s m n e .1
 machine-small t s m (suc k) n e = start-range t s m n e .1
 
-pub node-small : (t : Tree) → Sound t → (n k : ℕ) → Small machines (nodeNumber t n k)
+node-small : (t : Tree) → Sound t → (n k : ℕ) → Small machines (nodeNumber t n k)
 node-small t s n zero m e = owner-range t s n m e .1
 node-small t s n (suc k) m e = below-range t s n m e .1
 

@@ -1,6 +1,5 @@
 -- Which numbers a book uses, as a list of 1 and 0. Assumes nothing.
 use mathlib.Core.Path.{_≡_, refl, sym, _∙_, ap}
-use mathlib.Core.Logic.{⊎-elim}
 use mathlib.Core.Bool.{Bool, true, false, not, cond, _&&_}
 use mathlib.Core.Option.{Option, some}
 use mathlib.Core.List.{List}
@@ -8,22 +7,24 @@ use Prim.Native.Nat.{ℕ, suc, _+_, _<_}
 use native.Mathlib.Omega.{arith}
 use lib.Dec.{eqb, ltb}
 use lib.ListN.{length}
-use borrow.Author.Tests.{eq-eqb, ne-eqb, lt-ltb}
+use borrow.Author.Tests.{lt-ltb}
 use Rattle.definitions.specs.Basics.{isSome, countBelow}
 use Rattle.definitions.specs.Limits.{absent}
 use Rattle.definitions.specs.Book.{word}
 use Rattle.definitions.specs.Merge.{ranked, moved, rising}
-use Rattle.definitions.proofs.Options.{equal-or-not}
-use Rattle.definitions.proofs.Words.{present-word, absent-word}
-use Rattle.mergetheory.proofs.Ranks.{count-same, ranked-same, moved-same}
+use Rattle.definitions.proofs.Simple.{count-same}
+use Rattle.judging.proofs.Laws.{there}
+use Rattle.mergetheory.proofs.Ranks.{ranked-same, moved-same}
 use Rattle.numbering.specs.Tests.{has, Tells}
 use Rattle.merging.specs.Merging.{Flags}
 
 -- 1 for what is there, and 0 where nothing is
 pub flag : (o : Option ℕ) → ((n : ℕ) → o ≡ some n → n < absent) → {w r : ℕ} → w ≡ word o → r ≡ cond (eqb w absent) 0 1 → r ≡ cond (isSome o) 1 0
-flag o small {w} {r} said e =
-    ⊎-elim (λ at. e ∙ rw (eq-eqb w absent at, absent-word o small said at)) (λ other. e ∙ rw (ne-eqb w absent other, present-word o said other))
-    (equal-or-not w absent)
+flag o small {w} said e = e ∙ turned (eqb w absent) ∙ ap (λ b. cond b 1 0) (there o small said)
+  where
+    turned : (b : Bool) → _≡_ {A = ℕ} (cond b 0 1) (cond (not b) 1 0)
+    turned true = refl
+    turned false = refl
 
 -- ---- two such lists: `moving` of the numbers that move, `kept` of those that are taken
 

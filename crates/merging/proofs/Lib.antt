@@ -1,5 +1,5 @@
 pub mod Flags
 pub mod Beside
 pub mod Transitions
-pub mod Headed
+pub mod Rooted
 pub mod Says

@@ -23,26 +23,24 @@ use Rattle.definitions.specs.Merge.{Enough, treeRefusals, MergeDone, MergeSays}
 use Rattle.definitions.proofs.Options.{none-some, true-false}
 use Rattle.definitions.proofs.Commands.{neither}
 use Rattle.definitions.proofs.Words.{present-word, treeOf-encode}
-use Rattle.mergetheory.proofs.Ranks.{ranked-some, ranked-exists, count-under}
+use Rattle.mergetheory.proofs.Ranks.{ranked-some, ranked-exists, rank-under}
 use Rattle.mergetheory.proofs.Merged.{parts-merged, machines-move, nodes-move, merged-sound}
-use Rattle.merging.specs.Merging.{MachineTo, MachineFrom, NodeTo, NodeFrom, Moving, headedTree}
-use Rattle.merging.proofs.Beside.{nothing}
+use Rattle.merging.specs.Merging.{MachineTo, MachineFrom, NodeTo, NodeFrom, NodesMove, MoveLists, rootedTree}
+use Rattle.merging.proofs.Beside.{absent-none}
 
 -- ---- numbers enough
 
 -- the number of rank j, given by its word: none where it is absent, so that there are no more; else there are more
 module _ (limit : ℕ) (q : ℕ → Bool) (j : ℕ) {w : ℕ} (said : w ≡ word (ranked limit q j)) where
-  pub too-few : limit < absent → w ≡ absent → j < countBelow limit q → ⊥
+  too-few : limit < absent → w ≡ absent → j < countBelow limit q → ⊥
   too-few fits at more =
-      none-some (nothing (ranked limit q j) fits (λ k e. ranked-some limit q j e .range) said at) (ranked-exists limit q j more .1)
+      none-some (absent-none (ranked limit q j) fits (λ k e. ranked-some limit q j e .range) said at) (ranked-exists limit q j more .1)
 
-  pub stands : (w ≡ absent → ⊥) → ranked limit q j ≡ some w
-  stands present = present-word (ranked limit q j) said present
+  ranked-present : (w ≡ absent → ⊥) → ranked limit q j ≡ some w
+  ranked-present present = present-word (ranked limit q j) said present
 
-  pub enough : (w ≡ absent → ⊥) → j < countBelow limit q
-  enough present =
-      let at = ranked-some limit q j (stands present) in
-      omega (arith, count-under q limit w (at .range) (at .passes))
+  enough : (w ≡ absent → ⊥) → j < countBelow limit q
+  enough present = rank-under limit q j (ranked-present present)
 
 -- one of two words is absent, or neither is
 either-absent : {v w : ℕ} → (eqb v absent || eqb w absent) ≡ true → (v ≡ absent) ⊎ (w ≡ absent)
@@ -64,12 +62,7 @@ word-some {o} {k} {w} e said = e ∙ ap {B = Option ℕ} some (sym (said ∙ rw 
 
 -- the numbers that Merge goes by: those of the new root and its nodes, with the lists of where the second's move
 pub record Numbered (first second machine-to machine-from node-to node-from : List ℕ) (r a b : ℕ) : Type 0 where
-  pub first-sound : WellFormed first
-  pub second-sound : WellFormed second
-  pub machines-go : MachineTo first second machine-to
-  pub machines-came : MachineFrom first second machine-from
-  pub nodes-go : NodeTo first second node-to
-  pub nodes-came : NodeFrom first second node-from
+  pub lists : MoveLists first second machine-to machine-from node-to node-from
   pub root : r ≡ word (ranked machines (unusedMachine (treeOf first)) (machineCount (treeOf second)))
   pub lower : a ≡ word (ranked nodes (unusedNode (treeOf first)) (nodeCount (treeOf second)))
   pub higher : b ≡ word (ranked nodes (unusedNode (treeOf first)) (nodeCount (treeOf second) + 1))
@@ -82,12 +75,14 @@ pub numbered : {first second mt mf nt nf : List ℕ} {r a b : ℕ} → WellForme
     → Numbered first second mt mf nt nf r a b
 numbered one two ms ns =
     record {
-      first-sound = one;
-      second-sound = two;
-      machines-go = ms .0;
-      machines-came = ms .1 .0;
-      nodes-go = ns .0;
-      nodes-came = ns .1 .0;
+      lists = record {
+        first-formed = one;
+        second-formed = two;
+        machines-go = ms .0;
+        machines-came = ms .1 .0;
+        nodes-go = ns .0;
+        nodes-came = ns .1 .0;
+      };
       root = ms .1 .1;
       lower = ns .1 .1 .0;
       higher = ns .1 .1 .1;
@@ -101,11 +96,11 @@ root-range {ws} formed e =
 
 -- ---- the number of the refusal, by the answers of the two tests
 
-abbrev number : Bool → Bool → ℕ
-number deep few = cond deep 12 (cond few 19 0)
+abbrev refusalOf : Bool → Bool → ℕ
+refusalOf deep few = cond deep 12 (cond few 19 0)
 
 -- where there is none neither test holds
-pub none-holds : {k : ℕ} (deep few : Bool) → k ≡ number deep few → k ≡ 0 → (deep ≡ false) × (few ≡ false)
+pub none-holds : {k : ℕ} (deep few : Bool) → k ≡ refusalOf deep few → k ≡ 0 → (deep ≡ false) × (few ≡ false)
 none-holds true few e at = absurd (omega arith)
 none-holds false true e at = absurd (omega arith)
 none-holds false false e at = (refl, refl)
@@ -119,14 +114,14 @@ module _ {first second mt mf nt nf : List ℕ} {r a b : ℕ} (n : Numbered first
       too-few nodes (unusedNode (treeOf first)) (nodeCount (treeOf second) + 1) (n .higher) (omega arith) at (omega (arith, room .1))
 
   -- refused, and nothing is written
-  pub refused : (deep few : Bool) (book sheet : List ℕ) → deep ≡ (anyLowest (treeOf first) || anyLowest (treeOf second))
-      → few ≡ (eqb r absent || eqb b absent) → {k : ℕ} → k ≡ number deep few → (k ≡ 0 → ⊥)
+  pub tree-refused : (deep few : Bool) (book sheet : List ℕ) → deep ≡ (anyLowest (treeOf first) || anyLowest (treeOf second))
+      → few ≡ (eqb r absent || eqb b absent) → {k : ℕ} → k ≡ refusalOf deep few → (k ≡ 0 → ⊥)
       → InOrder (treeRefusals (treeOf first) (treeOf second)) (λ i. (k ≡ i) × (book ≡ book) × (sheet ≡ sheet))
       (MergeDone (treeOf first) (treeOf second) k book sheet)
-  refused true few book sheet ed ef e other = inl (true-false (sym ed), (e, refl, refl))
-  refused false true book sheet ed ef e other =
+  tree-refused true few book sheet ed ef e other = inl (true-false (sym ed), (e, refl, refl))
+  tree-refused false true book sheet ed ef e other =
       inr (sym ed, inl (few-numbers (either-absent (sym ef)), (e, refl, refl)))
-  refused false false book sheet ed ef e other = absurd (other e)
+  tree-refused false false book sheet ed ef e other = absurd (other e)
 
   -- neither is absent: enough
   module _ (present : r ≡ absent → ⊥) (there : b ≡ absent → ⊥) where
@@ -136,22 +131,13 @@ module _ {first second mt mf nt nf : List ℕ} {r a b : ℕ} (n : Numbered first
     node-room : nodeCount (treeOf second) + 1 < countBelow nodes (unusedNode (treeOf first))
     node-room = enough nodes (unusedNode (treeOf first)) (nodeCount (treeOf second) + 1) (n .higher) there
 
-    -- all that writing the book asks for
-    pub moving : Moving first second mt mf nt nf
-    moving =
-        record {
-          first-sound = n .first-sound;
-          second-sound = n .second-sound;
-          machines-go = n .machines-go;
-          machines-came = n .machines-came;
-          nodes-go = n .nodes-go;
-          nodes-came = n .nodes-came;
-          nodes-move = nodes-move (treeOf first) (n .second-sound .sound) (omega (arith, node-room)) .moves;
-        }
+    -- so every node of the second moves
+    pub all-move : NodesMove first second
+    all-move = nodes-move (treeOf first) (n .lists .second-formed .sound) (omega (arith, node-room)) .moves
 
     -- the book and the sheet are the merged tree's
     pub done : {i : ℕ} {book sheet book′ sheet′ : List ℕ} → (anyLowest (treeOf first) || anyLowest (treeOf second)) ≡ false
-        → i ≡ treeOf second .root → book′ ≡ encode (headedTree first second r a b (getD mt i 0))
+        → i ≡ treeOf second .root → book′ ≡ encode (rootedTree first second r a b (getD mt i 0))
         → sheet′ ≡ encodeRows (openRows (treeOf book′))
         → InOrder (treeRefusals (treeOf first) (treeOf second)) (λ k. (0 ≡ k) × (book′ ≡ book) × (sheet′ ≡ sheet))
         (MergeDone (treeOf first) (treeOf second) 0 book′ sheet′)
@@ -159,24 +145,24 @@ module _ {first second mt mf nt nf : List ℕ} {r a b : ℕ} (n : Numbered first
         let top : ℕ = getD mt i 0 in
         let t : Tree = treeOf first in
         let u : Tree = treeOf second in
-        let su : Sound u = n .second-sound .sound in
+        let su : Sound u = n .lists .second-formed .sound in
         let (f, used) = su .root-used in
         let (k, goes) = machines-move t su (omega (arith, machine-room)) .moves (u .root) (rw used) in
         let (j, lies) = ranked-exists nodes (unusedNode t) (nodeCount u) (omega (arith, node-room)) in
-        let w : Tree = headedTree first second r a b top in
+        let w : Tree = rootedTree first second r a b top in
         let made : merged t u ≡ some w =
         parts-merged {w = w} (record {
           root = r;
           first = a;
           second = b;
-          moved = top;
-          root-rank = stands machines (unusedMachine t) (machineCount u) (n .root) present;
+          top = top;
+          root-rank = ranked-present machines (unusedMachine t) (machineCount u) (n .root) present;
           first-rank = word-some lies (n .lower);
-          second-rank = stands nodes (unusedNode t) (nodeCount u + 1) (n .higher) there;
-          root-moves = word-some goes (ap (λ m. getD mt m 0) at ∙ n .machines-go .word (u .root) (su .machine-range (u .root) f used));
+          second-rank = ranked-present nodes (unusedNode t) (nodeCount u + 1) (n .higher) there;
+          root-moves = word-some goes (ap (λ m. getD mt m 0) at ∙ n .lists .machines-go .word (u .root) (su .machine-range (u .root) f used));
           tree = refl;
         }) in
-        let back : treeOf (encode w) ≡ w = treeOf-encode w (merged-sound (n .first-sound .sound) su high made) in
+        let back : treeOf (encode w) ≡ w = treeOf-encode w (merged-sound (n .lists .first-formed .sound) su high made) in
         inr (
           high,
           inr (

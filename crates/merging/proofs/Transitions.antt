@@ -10,7 +10,7 @@ use Rattle.definitions.specs.Book.{word, transitionWord, treeOf, WellFormed}
 use Rattle.definitions.specs.Merge.{nodeMoves, renumbered, beside}
 use Rattle.definitions.proofs.Words.{present-word, no-transition, some-transition, target-range}
 use Rattle.merging.specs.Merging.{NodeTo, NodesMove, besideTree}
-use Rattle.merging.proofs.Beside.{nothing, under, from-small, to-small}
+use Rattle.merging.proofs.Beside.{absent-none, present-small, from-small, to-small}
 
 module _ {first second : List ℕ} (wf : WellFormed first) (ws : WellFormed second) (n x : ℕ) {own : ℕ}
     (said : own ≡ transitionWord (treeOf first .transition n x)) where
@@ -26,12 +26,12 @@ module _ {first second : List ℕ} (wf : WellFormed first) (ws : WellFormed seco
     pub transition-none : d ≡ absent → (s : ℕ) → blank ≡ transitionWord (besideTree first second s .transition n x)
     unfolding beside renumbered transitionWord
     transition-none at s =
-        let gone = nothing (nodeMoves (treeOf first) (treeOf second) .from n) (omega arith) (from-small nodes _ _ n) came at in
+        let gone = absent-none (nodeMoves (treeOf first) (treeOf second) .from n) (omega arith) (from-small nodes _ _ n) came at in
         sym (rw (no-transition (treeOf first) (wf .sound) n x said off, gone))
 
     -- the node that did is one
     pub node-under : (d ≡ absent → ⊥) → d < nodes
-    node-under present = under nodes (nodeMoves (treeOf first) (treeOf second) .from n) (from-small nodes _ _ n) came present
+    node-under present = present-small nodes (nodeMoves (treeOf first) (treeOf second) .from n) (from-small nodes _ _ n) came present
 
     module _ (present : d ≡ absent → ⊥) {w : ℕ} (told : w ≡ transitionWord (treeOf second .transition d x)) where
       -- it has none

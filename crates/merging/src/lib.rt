@@ -13,16 +13,16 @@ ghost use Rattle.definitions.specs.Answer.{InOrder};
 ghost use Rattle.definitions.specs.Calls.{RightLengths};
 ghost use Rattle.definitions.specs.Merge.{ranked, unusedMachine, unusedNode, machineCount, nodeCount, treeRefusals, MergeDone, MergeSays};
 ghost use Rattle.book.specs.Recorded.{Recorded};
-ghost use Rattle.merging.specs.Merging.{Flags, MachineTo, MachineFrom, NodeTo, NodeFrom, NodesMove, Moving, besideTree, headedTree};
+ghost use Rattle.merging.specs.Merging.{Flags, MachineTo, MachineFrom, NodeTo, NodeFrom, NodesMove, MoveLists, besideTree, rootedTree};
 
 // The new root's two nodes, the lower first; ABSENT where there is no number for one.
-struct Heads {
+struct RootNodes {
     first: u32,
     second: u32,
 }
 
 // The new root, its node above the first book's root, its node above the second's, and the number that the second's root moved to.
-struct Head {
+struct NewRoot {
     root: u32,
     first: u32,
     second: u32,
@@ -76,7 +76,7 @@ fn move_machines(first: &[u32], second: &[u32], to: &mut [u32], from: &mut [u32]
 }
 
 // The same for nodes. Gives the new root's two nodes.
-fn move_nodes(first: &[u32], second: &[u32], to: &mut [u32], from: &mut [u32]) -> Heads
+fn move_nodes(first: &[u32], second: &[u32], to: &mut [u32], from: &mut [u32]) -> RootNodes
     requires { ⌜ WellFormed (now first) × WellFormed (now second) × (length (now to) ≡ nodes) × (length (now from) ≡ nodes) ⌝ }
     ensures there { λ _. ⌜ NodeTo (now (first .entry)) (now (second .entry)) (now (to .exit)) ⌝ }
     ensures back { λ _. ⌜ NodeFrom (now (first .entry)) (now (second .entry)) (now (from .exit)) ⌝ }
@@ -90,7 +90,7 @@ fn move_nodes(first: &[u32], second: &[u32], to: &mut [u32], from: &mut [u32]) -
     numbering::moves(&kept, 0, &moving, 1, from);
     let a = numbering::moves(&moving, 1, &kept, 0, to);
     let b = numbering::after(&kept, 0, a);
-    Heads {
+    RootNodes {
         first: a,
         second: b,
     }
@@ -163,10 +163,10 @@ fn beside_transition(first: &[u32], second: &[u32], from: &[u32], to: &[u32], n:
 }
 
 // The node that holds machine m in the merged book.
-fn merged_holder(first: &[u32], second: &[u32], from: &[u32], to: &[u32], h: Head, m: u32) -> u32
+fn merged_holder(first: &[u32], second: &[u32], from: &[u32], to: &[u32], h: NewRoot, m: u32) -> u32
     requires { ⌜ WellFormed (now first) × WellFormed (now second) × MachineFrom (now first) (now second) (now from)
         × NodeTo (now first) (now second) (now to) × (m < machines) ⌝ }
-    ensures { λ r. ⌜ r ≡ machineField (headedTree (now (first .entry)) (now (second .entry)) (h .root) (h .first) (h .second) (h .top)) m 0 ⌝ }
+    ensures { λ r. ⌜ r ≡ machineField (rootedTree (now (first .entry)) (now (second .entry)) (h .root) (h .first) (h .second) (h .top)) m 0 ⌝ }
 {
     if m == h.top {
         return h.second;
@@ -178,10 +178,10 @@ fn merged_holder(first: &[u32], second: &[u32], from: &[u32], to: &[u32], h: Hea
 }
 
 // The start node of machine m in the merged book.
-fn merged_start(first: &[u32], second: &[u32], from: &[u32], to: &[u32], h: Head, m: u32) -> u32
+fn merged_start(first: &[u32], second: &[u32], from: &[u32], to: &[u32], h: NewRoot, m: u32) -> u32
     requires { ⌜ WellFormed (now first) × WellFormed (now second) × MachineFrom (now first) (now second) (now from)
         × NodeTo (now first) (now second) (now to) × (m < machines) ⌝ }
-    ensures { λ r. ⌜ r ≡ machineField (headedTree (now (first .entry)) (now (second .entry)) (h .root) (h .first) (h .second) (h .top)) m 1 ⌝ }
+    ensures { λ r. ⌜ r ≡ machineField (rootedTree (now (first .entry)) (now (second .entry)) (h .root) (h .first) (h .second) (h .top)) m 1 ⌝ }
 {
     if m == h.root {
         return h.first;
@@ -190,10 +190,10 @@ fn merged_start(first: &[u32], second: &[u32], from: &[u32], to: &[u32], h: Head
 }
 
 // The machine that node n belongs to in the merged book.
-fn merged_owner(first: &[u32], second: &[u32], from: &[u32], to: &[u32], h: Head, n: u32) -> u32
+fn merged_owner(first: &[u32], second: &[u32], from: &[u32], to: &[u32], h: NewRoot, n: u32) -> u32
     requires { ⌜ WellFormed (now first) × WellFormed (now second) × NodeFrom (now first) (now second) (now from)
         × MachineTo (now first) (now second) (now to) × (n < nodes) ⌝ }
-    ensures { λ r. ⌜ r ≡ nodeField (headedTree (now (first .entry)) (now (second .entry)) (h .root) (h .first) (h .second) (h .top)) n 0 ⌝ }
+    ensures { λ r. ⌜ r ≡ nodeField (rootedTree (now (first .entry)) (now (second .entry)) (h .root) (h .first) (h .second) (h .top)) n 0 ⌝ }
 {
     if n == h.second {
         return h.root;
@@ -205,10 +205,10 @@ fn merged_owner(first: &[u32], second: &[u32], from: &[u32], to: &[u32], h: Head
 }
 
 // The machine that node n holds in the merged book.
-fn merged_below(first: &[u32], second: &[u32], from: &[u32], to: &[u32], h: Head, n: u32) -> u32
+fn merged_below(first: &[u32], second: &[u32], from: &[u32], to: &[u32], h: NewRoot, n: u32) -> u32
     requires { ⌜ WellFormed (now first) × WellFormed (now second) × NodeFrom (now first) (now second) (now from)
         × MachineTo (now first) (now second) (now to) × (n < nodes) ⌝ }
-    ensures { λ r. ⌜ r ≡ nodeField (headedTree (now (first .entry)) (now (second .entry)) (h .root) (h .first) (h .second) (h .top)) n 1 ⌝ }
+    ensures { λ r. ⌜ r ≡ nodeField (rootedTree (now (first .entry)) (now (second .entry)) (h .root) (h .first) (h .second) (h .top)) n 1 ⌝ }
 {
     if n == h.second {
         return h.top;
@@ -225,14 +225,14 @@ fn write_machines(
     second: &[u32],
     from: &[u32],
     to: &[u32],
-    h: Head,
+    h: NewRoot,
     book: &mut [u32],
 )
     requires { ⌜ WellFormed (now first) × WellFormed (now second) × MachineFrom (now first) (now second) (now from)
         × NodeTo (now first) (now second) (now to)
-        × Recorded (now book) (headedTree (now first) (now second) (h .root) (h .first) (h .second) (h .top)) 0 0 0 ⌝ }
+        × Recorded (now book) (rootedTree (now first) (now second) (h .root) (h .first) (h .second) (h .top)) 0 0 0 ⌝ }
     ensures { λ _. ⌜ Recorded (now (book .exit))
-        (headedTree (now (first .entry)) (now (second .entry)) (h .root) (h .first) (h .second) (h .top)) machines 0 0 ⌝ }
+        (rootedTree (now (first .entry)) (now (second .entry)) (h .root) (h .first) (h .second) (h .top)) machines 0 0 ⌝ }
 {
     let mut m: u32 = 0;
     while m < book::MACHINES {
@@ -256,8 +256,8 @@ fn write_transitions(
 )
     requires { ⌜ WellFormed (now first) × WellFormed (now second) × NodeFrom (now first) (now second) (now from)
         × NodeTo (now first) (now second) (now to) × NodesMove (now first) (now second) × (n < nodes) × (length (now book) ≡ bookLength) ⌝ }
-    ensures { λ _. ⌜ ((r a b s : ℕ) → Recorded (now (book .entry)) (headedTree (now (first .entry)) (now (second .entry)) r a b s) machines n 2
-        → Recorded (now (book .exit)) (headedTree (now (first .entry)) (now (second .entry)) r a b s) machines (n + 1) 0) ⌝ }
+    ensures { λ _. ⌜ ((r a b s : ℕ) → Recorded (now (book .entry)) (rootedTree (now (first .entry)) (now (second .entry)) r a b s) machines n 2
+        → Recorded (now (book .exit)) (rootedTree (now (first .entry)) (now (second .entry)) r a b s) machines (n + 1) 0) ⌝ }
 {
     let mut x: u32 = 0;
     while x < book::COMMANDS {
@@ -274,15 +274,15 @@ fn write_node(
     machine_to: &[u32],
     node_to: &[u32],
     node_from: &[u32],
-    h: Head,
+    h: NewRoot,
     n: u32,
     book: &mut [u32],
 )
     requires { ⌜ WellFormed (now first) × WellFormed (now second) × MachineTo (now first) (now second) (now «machine_to»)
         × NodeTo (now first) (now second) (now «node_to») × NodeFrom (now first) (now second) (now «node_from») × NodesMove (now first) (now second)
-        × (n < nodes) × Recorded (now book) (headedTree (now first) (now second) (h .root) (h .first) (h .second) (h .top)) machines n 0 ⌝ }
+        × (n < nodes) × Recorded (now book) (rootedTree (now first) (now second) (h .root) (h .first) (h .second) (h .top)) machines n 0 ⌝ }
     ensures { λ _. ⌜ Recorded (now (book .exit))
-        (headedTree (now (first .entry)) (now (second .entry)) (h .root) (h .first) (h .second) (h .top)) machines (n + 1) 0 ⌝ }
+        (rootedTree (now (first .entry)) (now (second .entry)) (h .root) (h .first) (h .second) (h .top)) machines (n + 1) 0 ⌝ }
 {
     let owner = merged_owner(first, second, node_from, machine_to, h, n);
     let below = merged_below(first, second, node_from, machine_to, h, n);
@@ -299,12 +299,12 @@ fn write_book(
     machine_from: &[u32],
     node_to: &[u32],
     node_from: &[u32],
-    h: Head,
+    h: NewRoot,
     book: &mut [u32],
 )
-    requires { ⌜ Moving (now first) (now second) (now «machine_to») (now «machine_from») (now «node_to») (now «node_from»)
-        × (length (now book) ≡ bookLength) ⌝ }
-    ensures { λ _. ⌜ now (book .exit) ≡ encode (headedTree (now (first .entry)) (now (second .entry)) (h .root) (h .first) (h .second) (h .top)) ⌝ }
+    requires { ⌜ MoveLists (now first) (now second) (now «machine_to») (now «machine_from») (now «node_to») (now «node_from»)
+        × NodesMove (now first) (now second) × (length (now book) ≡ bookLength) ⌝ }
+    ensures { λ _. ⌜ now (book .exit) ≡ encode (rootedTree (now (first .entry)) (now (second .entry)) (h .root) (h .first) (h .second) (h .top)) ⌝ }
 {
     book::set_root(book, h.root);
     write_machines(first, second, machine_from, node_to, h, book);
@@ -355,17 +355,17 @@ fn merge_sound(first: &[u32], second: &[u32], book: &mut [u32], sheet: &mut [u32
     let mut node_to = [0u32; 256];
     let mut node_from = [0u32; 256];
     let root = move_machines(first, second, &mut machine_to, &mut machine_from);
-    let heads = move_nodes(first, second, &mut node_to, &mut node_from);
-    let below = heads.second;
-    let number = refusal(too_deep(first, second), too_few(root, below));
+    let nodes = move_nodes(first, second, &mut node_to, &mut node_from);
+    let higher = nodes.second;
+    let number = refusal(too_deep(first, second), too_few(root, higher));
     if number != 0 {
         return number;
     }
     let top = machine_to[book::root(second) as usize];
-    let head = Head {
+    let above = NewRoot {
         root: root,
-        first: heads.first,
-        second: below,
+        first: nodes.first,
+        second: higher,
         top: top,
     };
     write_book(
@@ -375,7 +375,7 @@ fn merge_sound(first: &[u32], second: &[u32], book: &mut [u32], sheet: &mut [u32
         &machine_from,
         &node_to,
         &node_from,
-        head,
+        above,
         book,
     );
     opening::open_sheet(book, sheet);
@@ -384,7 +384,7 @@ fn merge_sound(first: &[u32], second: &[u32], book: &mut [u32], sheet: &mut [u32
 
 // Merge: writes a third book and its sheet from two books, and gives 0. The first keeps its numbers; the second's machines and nodes move, in
 // rising order, to the lowest that the first does not use. A new root takes the next lowest, with two nodes: the lower is its start and holds the
-// first's root, the other the second's. Every machine is marked. It refuses 1 (a wrong length of any list), 2 (a book not well formed), 12 (over 8
+// first's root, the other the second's. Every machine in use is marked. It refuses 1 (a wrong length of any list), 2 (a book not well formed), 12 (over 8
 // levels), 19 (too few numbers) and then writes nothing.
 pub fn merge(first: &[u32], second: &[u32], book: &mut [u32], sheet: &mut [u32]) -> u32
     ensures { λ r. ⌜ MergeSays (now (first .entry)) (now (second .entry)) (now (book .entry)) (now (sheet .entry)) r

@@ -16,7 +16,7 @@ use Rattle.definitions.specs.Book.{word}
 use Rattle.definitions.specs.Merge.{ranked, moved}
 use Rattle.definitions.proofs.Options.{equal-or-not}
 use Rattle.mergetheory.proofs.Ranks.{count-pass, count-skip, ranked-some, ranked-at, ranked-none, none-on, moved-pass, moved-not}
-use Rattle.numbering.specs.Tests.{has, Front}
+use Rattle.numbering.specs.Tests.{has, FrontWords}
 
 module _ (list : List ℕ) (v : ℕ) where
   -- number k is the lowest from i on, where none between has the word and k has
@@ -68,11 +68,11 @@ module _ (list : List ℕ) (v : ℕ) where
 
 -- ---- lists that are written one word after the other
 
-pub front-none : {size : ℕ} {f : ℕ → ℕ} {list : List ℕ} → length list ≡ size → Front size 0 f list
+pub front-none : {size : ℕ} {f : ℕ → ℕ} {list : List ℕ} → length list ≡ size → FrontWords size 0 f list
 front-none room = record { length = room; word = λ i h. absurd (omega arith) }
 
 -- one word more
-pub front-more : {size k : ℕ} {f : ℕ → ℕ} {list : List ℕ} (v : ℕ) → Front size k f list → k < size → v ≡ f k → Front size (k + 1) f (set list k v)
+pub front-more : {size k : ℕ} {f : ℕ → ℕ} {list : List ℕ} (v : ℕ) → FrontWords size k f list → k < size → v ≡ f k → FrontWords size (k + 1) f (set list k v)
 front-more {k = k} {list = list} v less h here =
     record {
       length = length-set list k v ∙ less .length;
@@ -82,37 +82,37 @@ front-more {k = k} {list = list} v less h here =
     }
 
 -- all
-pub front-all : {size k : ℕ} {f : ℕ → ℕ} {list : List ℕ} → k ≡ size → Front size k f list → Front size size f list
-front-all {size} {f = f} {list} all whole = subst (λ i. Front size i f list) all whole
+pub front-all : {size k : ℕ} {f : ℕ → ℕ} {list : List ℕ} → k ≡ size → FrontWords size k f list → FrontWords size size f list
+front-all {size} {f = f} {list} all whole = subst (λ i. FrontWords size i f list) all whole
 
 -- ---- the list of where numbers move
 
 -- the list has where each number under d moves, and `next` is where the next one goes
-pub record Upto (limit : ℕ) (p q : ℕ → Bool) (out : List ℕ) (next d : ℕ) : Type 0 where
-  pub told : Front limit d (λ i. word (moved limit p q i)) out
+pub record MovedUpto (limit : ℕ) (p q : ℕ → Bool) (out : List ℕ) (next d : ℕ) : Type 0 where
+  pub told : FrontWords limit d (λ i. word (moved limit p q i)) out
   pub coming : next ≡ word (ranked limit q (countBelow d p))
 
 module _ {limit : ℕ} {p q : ℕ → Bool} where
   -- at first
-  pub upto-none : {out : List ℕ} {next : ℕ} → length out ≡ limit → next ≡ word (ranked limit q (countBelow 0 q)) → Upto limit p q out next 0
+  pub upto-none : {out : List ℕ} {next : ℕ} → length out ≡ limit → next ≡ word (ranked limit q (countBelow 0 q)) → MovedUpto limit p q out next 0
   unfolding countBelow
   upto-none room next = record { told = front-none room; coming = next }
 
   -- one number more, with what is stored for it
-  upto-more : {out : List ℕ} {next after d : ℕ} (v : ℕ) → Upto limit p q out next d → d < limit → v ≡ word (moved limit p q d)
-      → after ≡ word (ranked limit q (countBelow (suc d) p)) → Upto limit p q (set out d v) after (d + 1)
+  upto-more : {out : List ℕ} {next after d : ℕ} (v : ℕ) → MovedUpto limit p q out next d → d < limit → v ≡ word (moved limit p q d)
+      → after ≡ word (ranked limit q (countBelow (suc d) p)) → MovedUpto limit p q (set out d v) after (d + 1)
   upto-more {out} {next} {after} {d} v less h here on =
       let at : suc d ≡ d + 1 = omega arith in
       record { told = front-more v (less .told) h here; coming = rw at at on }
 
   -- one that moves, and one that does not
-  pub upto-moves : {out : List ℕ} {next after d : ℕ} → Upto limit p q out next d → d < limit → p d ≡ true
-      → after ≡ word (ranked limit q (suc (countBelow d p))) → Upto limit p q (set out d next) after (d + 1)
+  pub upto-moves : {out : List ℕ} {next after d : ℕ} → MovedUpto limit p q out next d → d < limit → p d ≡ true
+      → after ≡ word (ranked limit q (suc (countBelow d p))) → MovedUpto limit p q (set out d next) after (d + 1)
   upto-moves {next = next} {d = d} less h on after =
       upto-more next less h (less .coming ∙ ap word (sym (moved-pass limit p q d on)))
       (after ∙ ap (λ j. word (ranked limit q j)) (sym (count-pass p d on)))
 
-  pub upto-stays : {out : List ℕ} {next d : ℕ} → Upto limit p q out next d → d < limit → p d ≡ false → Upto limit p q (set out d absent) next (d + 1)
+  pub upto-stays : {out : List ℕ} {next d : ℕ} → MovedUpto limit p q out next d → d < limit → p d ≡ false → MovedUpto limit p q (set out d absent) next (d + 1)
   unfolding word
   upto-stays {next = next} {d = d} less h off =
       upto-more absent less h (sym (ap word (moved-not limit p q d off)))

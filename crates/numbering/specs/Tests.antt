@@ -13,10 +13,10 @@ abbrev pub has : List ℕ → ℕ → ℕ → Bool
 has list v k = eqb (getD list k 0) v
 
 -- the list has so many words, of which the first k are those that f gives
-pub record Front (size k : ℕ) (f : ℕ → ℕ) (list : List ℕ) : Type 0 where
+pub record FrontWords (size k : ℕ) (f : ℕ → ℕ) (list : List ℕ) : Type 0 where
   pub length : length list ≡ size
   pub word : (i : ℕ) → i < k → getD list i 0 ≡ f i
 
 -- the list has a word for each number under the limit: the one of what f says of the number
 abbrev pub Tells : ℕ → (ℕ → Option ℕ) → List ℕ → Type 0
-Tells limit f = Front limit limit (λ i. word (f i))
+Tells limit f = FrontWords limit limit (λ i. word (f i))

@@ -1,5 +1,5 @@
-// Numbers that move in rising order to the lowest that are free (document 02, W-201). Nothing is known here of books: a list has a word for each
-// number, and the numbers that have a given word move to those that have another in a second list.
+// Numbers that move in rising order to the lowest that are free (document 02, W-201). A list has a word for each number, and the numbers that have a
+// given word move to those that have another in a second list.
 ghost use mathlib.Core.Path.{_≡_};
 ghost use Prim.Native.Nat.{ℕ, suc, _≤_, _<_};
 ghost use lib.ListN.{length};
@@ -24,7 +24,7 @@ fn next_from(list: &[u32], v: u32, i: u32) -> u32
     book::ABSENT
 }
 
-// The number of the next rank after number k; ABSENT after the last, and after ABSENT.
+// The number of the next rank after number k, which has the word v itself; ABSENT after the last, and after ABSENT.
 pub fn after(list: &[u32], v: u32, k: u32) -> u32
     requires { ⌜ length (now list) < absent ⌝ }
     ensures { λ r. ⌜ ((j : ℕ) → k ≡ word (ranked (length (now (list .entry))) (has (now (list .entry)) v) j)
@@ -37,7 +37,7 @@ pub fn after(list: &[u32], v: u32, k: u32) -> u32
 }
 
 // Writes where each number moves if those whose word is v move, in rising order, to the lowest whose word in the other list is w; ABSENT for
-// the others. Gives the next lowest number after those.
+// the others, and where none is left. Gives the next lowest number of the other list after those, ABSENT where there is none.
 pub fn moves(list: &[u32], v: u32, other: &[u32], w: u32, out: &mut [u32]) -> u32
     requires { ⌜ (length (now list) < absent) × (length (now other) ≡ length (now list)) × (length (now out) ≡ length (now list)) ⌝ }
     ensures told { λ _. ⌜ Tells (length (now (list .entry))) (moved (length (now (list .entry))) (has (now (list .entry)) v) (has (now (other .entry)) w))

@@ -1,18 +1,12 @@
 -- Counting the numbers that pass a test, when the test changes at one number. Assumes nothing.
-use mathlib.Core.Path.{_≡_, refl, ap₂}
+use mathlib.Core.Path.{_≡_, refl}
 use mathlib.Core.Logic.{⊎-elim}
-use mathlib.Core.Bool.{Bool, true, false, cond}
-use Prim.Native.Nat.{ℕ, zero, suc, _+_, _<_}
+use mathlib.Core.Bool.{Bool, true, false}
+use Prim.Native.Nat.{ℕ, zero, suc, _<_}
 use native.Mathlib.Omega.{arith}
 use Rattle.definitions.specs.Basics.{countBelow}
 use Rattle.definitions.proofs.Options.{equal-or-not}
-
--- two tests that agree below k count alike
-pub count-same : (k : ℕ) (p q : ℕ → Bool) → ((v : ℕ) → v < k → p v ≡ q v) → countBelow k p ≡ countBelow k q
-unfolding countBelow
-count-same zero p q same = refl
-count-same (suc k) p q same =
-    ap₂ (λ (t : Bool) (n : ℕ). cond t 1 0 + n) (same k (omega arith)) (count-same k p q (λ v h. same v (omega arith)))
+use Rattle.definitions.proofs.Simple.{count-same}
 
 -- a test that every number passes
 pub count-all : (k : ℕ) (p : ℕ → Bool) → ((v : ℕ) → v < k → p v ≡ true) → countBelow k p ≡ k

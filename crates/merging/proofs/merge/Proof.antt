@@ -1,4 +1,5 @@
 -- `merging::merge` meets its contract: each refusal in its order, and then the merge. Assumes nothing.
+use native.Mathlib.Omega.{arith}
 use denote.Ref.{now}
 use Rattle.book.proofs.Decide.{passed, refused}
 use Rattle.merging.proofs.Says.{wrong-length, first-torn, second-torn, both-formed}
@@ -19,7 +20,7 @@ returns-2 c =
 returns-3 : tie.Need-returns-3
 returns-3 c =
     let a = c .before .before .before .before .before .before .before .args in
-    wrong-length (now (a .first)) (now (a .second)) (now (a .book)) (now (a .sheet)) (λ l. c .if3 .taken (l .2 .0))
+    wrong-length (now (a .first)) (now (a .second)) (now (a .book)) (now (a .sheet)) (λ l. omega (arith, l .2 .0))
 
 returns-4 : tie.Need-returns-4
 returns-4 c =
@@ -35,7 +36,7 @@ returns-5 c =
     let k = one .before in
     let a = k .before .before .before .before .before .before .before .before .args in
     first-torn (now (a .first)) (now (a .second)) (now (a .book)) (now (a .sheet))
-    (k .before .before .before .if1 .left) (k .before .before .if2 .left) (k .before .if3 .left) (k .if4 .left) (refused (one .well-formed .result) (one .well-formed .ensures) (c .if5 .taken))
+    (k .before .before .before .if1 .left) (k .before .before .if2 .left) (omega (arith, k .before .if3 .left)) (k .if4 .left) (refused (one .well-formed .result) (one .well-formed .ensures) (c .if5 .taken))
 
 well-formed-requires-2 : tie.Need-well-formed-requires-2
 well-formed-requires-2 c κs = search needs
@@ -47,7 +48,7 @@ returns-6 c =
     let k = one .before in
     let a = k .before .before .before .before .before .before .before .before .args in
     second-torn (now (a .first)) (now (a .second)) (now (a .book)) (now (a .sheet))
-    (k .before .before .before .if1 .left) (k .before .before .if2 .left) (k .before .if3 .left) (k .if4 .left) (passed (one .well-formed .result) (one .well-formed .ensures) (two .before .if5 .left))
+    (k .before .before .before .if1 .left) (k .before .before .if2 .left) (omega (arith, k .before .if3 .left)) (k .if4 .left) (passed (one .well-formed .result) (one .well-formed .ensures) (two .before .if5 .left))
     (refused (two .well-formed2 .result) (two .well-formed2 .ensures) (c .if6 .taken))
 
 merge-sound-requires : tie.Need-merge-sound-requires
@@ -56,7 +57,7 @@ merge-sound-requires c κs =
     let two = last .before in
     let one = two .before .before in
     let k = one .before in
-    (passed (one .well-formed .result) (one .well-formed .ensures) (two .before .if5 .left), passed (two .well-formed2 .result) (two .well-formed2 .ensures) (last .if6 .left), (k .before .if3 .left, k .if4 .left))
+    (passed (one .well-formed .result) (one .well-formed .ensures) (two .before .if5 .left), passed (two .well-formed2 .result) (two .well-formed2 .ensures) (last .if6 .left), (omega (arith, k .before .if3 .left), k .if4 .left))
 
 same-length : tie.Need-same-length
 same-length c = search needs
@@ -73,7 +74,7 @@ returns-7 c =
     let k = one .before in
     let a = k .before .before .before .before .before .before .before .before .args in
     both-formed (now (a .first)) (now (a .second)) (now (a .book)) (now (a .sheet))
-    (k .before .before .before .if1 .left) (k .before .before .if2 .left) (k .before .if3 .left) (k .if4 .left) (passed (one .well-formed .result) (one .well-formed .ensures) (two .before .if5 .left))
+    (k .before .before .before .if1 .left) (k .before .before .if2 .left) (omega (arith, k .before .if3 .left)) (k .if4 .left) (passed (one .well-formed .result) (one .well-formed .ensures) (two .before .if5 .left))
     (passed (two .well-formed2 .result) (two .well-formed2 .ensures) (last .if6 .left)) (merged .merge-sound .ensures)
 
 pub merge-spec : {M : Type 1} → statement M

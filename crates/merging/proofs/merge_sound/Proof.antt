@@ -4,7 +4,7 @@ use mathlib.Core.Path.{sym, _∙_, ap}
 use denote.Ref.{now}
 use lib.ListN.{length}
 use Rattle.definitions.proofs.Words.{encode-length}
-use Rattle.merging.proofs.Says.{numbered, root-range, none-holds, neither-absent, refused, moving, done}
+use Rattle.merging.proofs.Says.{numbered, root-range, none-holds, neither-absent, tree-refused, all-move, done}
 use borrow.Author.Needs.{needs}
 use Rattle.merging.proofs.merge_sound.Statement.{statement}
 use Rattle.merging.proofs.merge_sound.Tie as tie
@@ -45,7 +45,7 @@ returns c =
     let machines = nodes .before .before .before .before .before in
     let e = machines .before .before .before .before .before .before .before in
     let n = numbered (e .pre .0) (e .pre .1) (machines .move-machines .ensures) (nodes .move-nodes .ensures) in
-    refused n (deep .too-deep .result) (few .too-few .result) (now (e .args .book)) (now (e .args .sheet)) (deep .too-deep .ensures)
+    tree-refused n (deep .too-deep .result) (few .too-few .result) (now (e .args .book)) (now (e .args .sheet)) (deep .too-deep .ensures)
     (few .too-few .ensures) (ref .refusal .ensures) (c .if1 .taken)
 
 root-requires : tie.Need-root-requires
@@ -83,7 +83,7 @@ write-book-requires c κs =
     let n = numbered (e .pre .0) (e .pre .1) (machines .move-machines .ensures) (nodes .move-nodes .ensures) in
     let off = none-holds (deep .too-deep .result) (few .too-few .result) (ref .refusal .ensures) (c .before .before .before .before .before .before .if1 .left) in
     let there = neither-absent (sym (few .too-few .ensures) ∙ off .1) in
-    (moving n (there .0) (there .1), e .pre .2 .0)
+    (n .lists, all-move n (there .0) (there .1), e .pre .2 .0)
 
 open-sheet-requires : tie.Need-open-sheet-requires
 open-sheet-requires c κs = (ap length (c .before .before .before .before .write-book .ensures) ∙ encode-length _, c .before .before .before .before .before .before .before .before .before .before .before .before .before .before .before .before .before .before .before .before .before .before .before .before .before .before .before .before .before .pre .2 .1)

@@ -1,7 +1,7 @@
 -- `merging::merged_below` meets its contract: the new root's nodes hold the two old roots. Assumes nothing.
 use mathlib.Core.Path.{_∙_}
 use denote.Ref.{now}
-use Rattle.merging.proofs.Headed.{below-second, below-first, below-else}
+use Rattle.merging.proofs.Rooted.{below-second, below-first, below-else}
 use borrow.Author.Needs.{needs}
 use Rattle.merging.proofs.merged_below.Statement.{statement}
 use Rattle.merging.proofs.merged_below.Tie as tie

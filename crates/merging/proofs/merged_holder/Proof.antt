@@ -1,7 +1,7 @@
 -- `merging::merged_holder` meets its contract: the two old roots are held by the new root's nodes. Assumes nothing.
 use mathlib.Core.Path.{sym, _∙_}
 use denote.Ref.{now}
-use Rattle.merging.proofs.Headed.{holder-second, holder-first, holder-else}
+use Rattle.merging.proofs.Rooted.{holder-second, holder-first, holder-else}
 use borrow.Author.Needs.{needs}
 use Rattle.merging.proofs.merged_holder.Statement.{statement}
 use Rattle.merging.proofs.merged_holder.Tie as tie

@@ -1,7 +1,7 @@
 -- `merging::merged_owner` meets its contract: the new root's nodes belong to it. Assumes nothing.
 use mathlib.Core.Path.{_∙_}
 use denote.Ref.{now}
-use Rattle.merging.proofs.Headed.{owner-second, owner-first, owner-else}
+use Rattle.merging.proofs.Rooted.{owner-second, owner-first, owner-else}
 use borrow.Author.Needs.{needs}
 use Rattle.merging.proofs.merged_owner.Statement.{statement}
 use Rattle.merging.proofs.merged_owner.Tie as tie

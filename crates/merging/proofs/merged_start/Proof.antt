@@ -1,7 +1,7 @@
 -- `merging::merged_start` meets its contract: the new root starts at the lower of its nodes. Assumes nothing.
 use mathlib.Core.Path.{_∙_}
 use denote.Ref.{now}
-use Rattle.merging.proofs.Headed.{start-root, start-else}
+use Rattle.merging.proofs.Rooted.{start-root, start-else}
 use borrow.Author.Needs.{needs}
 use Rattle.merging.proofs.merged_start.Statement.{statement}
 use Rattle.merging.proofs.merged_start.Tie as tie

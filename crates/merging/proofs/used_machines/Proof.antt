@@ -9,14 +9,14 @@ use Rattle.definitions.specs.Limits.{machines}
 use Rattle.definitions.specs.Tree.{usedMachine}
 use Rattle.definitions.specs.Book.{treeOf}
 use Rattle.definitions.proofs.Words.{start-range}
-use Rattle.numbering.specs.Tests.{Front}
+use Rattle.numbering.specs.Tests.{FrontWords}
 use Rattle.numbering.proofs.Laws.{front-none, front-more, front-all}
 use Rattle.merging.proofs.Flags.{flag}
 use Rattle.merging.proofs.used_machines.Statement.{statement}
 use Rattle.merging.proofs.used_machines.Tie as tie
 
 abbrev Inv-loop : tie.InvT-loop
-Inv-loop book out₀ m₀ out m = (m ≤ machines) × Front machines m (λ k. cond (usedMachine (treeOf book) k) 1 0) out
+Inv-loop book out₀ m₀ out m = (m ≤ machines) × FrontWords machines m (λ k. cond (usedMachine (treeOf book) k) 1 0) out
 
 abbrev μ-loop : tie.MeasureT-loop
 μ-loop book out₀ m₀ out m = machines - m

@@ -9,14 +9,14 @@ use Rattle.definitions.specs.Limits.{nodes}
 use Rattle.definitions.specs.Tree.{usedNode}
 use Rattle.definitions.specs.Book.{treeOf}
 use Rattle.definitions.proofs.Words.{owner-range}
-use Rattle.numbering.specs.Tests.{Front}
+use Rattle.numbering.specs.Tests.{FrontWords}
 use Rattle.numbering.proofs.Laws.{front-none, front-more, front-all}
 use Rattle.merging.proofs.Flags.{flag}
 use Rattle.merging.proofs.used_nodes.Statement.{statement}
 use Rattle.merging.proofs.used_nodes.Tie as tie
 
 abbrev Inv-loop : tie.InvT-loop
-Inv-loop book out₀ n₀ out n = (n ≤ nodes) × Front nodes n (λ k. cond (usedNode (treeOf book) k) 1 0) out
+Inv-loop book out₀ n₀ out n = (n ≤ nodes) × FrontWords nodes n (λ k. cond (usedNode (treeOf book) k) 1 0) out
 
 abbrev μ-loop : tie.MeasureT-loop
 μ-loop book out₀ n₀ out n = nodes - n

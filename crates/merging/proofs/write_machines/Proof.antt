@@ -5,12 +5,12 @@ use native.Mathlib.Omega.{arith}
 use Rattle.definitions.specs.Limits.{machines}
 use Rattle.book.specs.Recorded.{Recorded}
 use Rattle.book.proofs.Recorded.{recorded-machine, recorded-machines}
-use Rattle.merging.specs.Merging.{headedTree}
+use Rattle.merging.specs.Merging.{rootedTree}
 use Rattle.merging.proofs.write_machines.Statement.{statement}
 use Rattle.merging.proofs.write_machines.Tie as tie
 
 abbrev Inv-loop : tie.InvT-loop
-Inv-loop first second from to h book₀ m₀ book m = (m ≤ machines) × Recorded book (headedTree first second (h .root) (h .first) (h .second) (h .top)) m 0 0
+Inv-loop first second from to h book₀ m₀ book m = (m ≤ machines) × Recorded book (rootedTree first second (h .root) (h .first) (h .second) (h .top)) m 0 0
 
 abbrev μ-loop : tie.MeasureT-loop
 μ-loop first second from to h book₀ m₀ book m = machines - m

@@ -8,16 +8,16 @@ use lib.ListN.{length}
 use Rattle.definitions.specs.Limits.{machines, commands, bookLength}
 use Rattle.book.specs.Recorded.{Recorded}
 use Rattle.book.proofs.Recorded.{recorded-node}
-use Rattle.merging.specs.Merging.{headedTree}
-use Rattle.merging.proofs.Headed.{recorded-transition}
+use Rattle.merging.specs.Merging.{rootedTree}
+use Rattle.merging.proofs.Rooted.{recorded-transition}
 use Rattle.merging.proofs.write_transitions.Statement.{statement}
 use Rattle.merging.proofs.write_transitions.Tie as tie
 
 abbrev Inv-loop : tie.InvT-loop
 Inv-loop first second from to n book₀ x₀ book x =
     (x ≤ commands) × (length book ≡ bookLength)
-    × ((r a b s : ℕ) → Recorded book₀ (headedTree first second r a b s) machines n 2
-    → Recorded book (headedTree first second r a b s) machines n (x + 2))
+    × ((r a b s : ℕ) → Recorded book₀ (rootedTree first second r a b s) machines n 2
+    → Recorded book (rootedTree first second r a b s) machines n (x + 2))
 
 abbrev μ-loop : tie.MeasureT-loop
 μ-loop first second from to n book₀ x₀ book x = commands - x

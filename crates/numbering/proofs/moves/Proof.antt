@@ -11,12 +11,12 @@ use Rattle.definitions.specs.Basics.{countBelow}
 use Rattle.definitions.specs.Book.{word}
 use Rattle.definitions.specs.Merge.{ranked}
 use Rattle.numbering.specs.Tests.{has}
-use Rattle.numbering.proofs.Laws.{Upto, upto-none, upto-moves, upto-stays}
+use Rattle.numbering.proofs.Laws.{MovedUpto, upto-none, upto-moves, upto-stays}
 use Rattle.numbering.proofs.moves.Statement.{statement}
 use Rattle.numbering.proofs.moves.Tie as tie
 
 abbrev Inv-loop : tie.InvT-loop
-Inv-loop list v other w out₀ next₀ d₀ out next d = (d ≤ length list) × Upto (length list) (has list v) (has other w) out next d
+Inv-loop list v other w out₀ next₀ d₀ out next d = (d ≤ length list) × MovedUpto (length list) (has list v) (has other w) out next d
 
 abbrev μ-loop : tie.MeasureT-loop
 μ-loop list v other w out₀ next₀ d₀ out next d = length list - d
@@ -99,7 +99,7 @@ returns c =
     let a = c .before .before .before .before .before .before .args in
     let size = length (now (a .list)) in
     let all : l .d ≡ size = omega arith in
-    let done = subst (λ d. Upto size (has (now (a .list)) (a .v)) (has (now (a .other)) (a .w)) (l .out) (l .next) d) all (l .inv .1) in
+    let done = subst (λ d. MovedUpto size (has (now (a .list)) (a .v)) (has (now (a .other)) (a .w)) (l .out) (l .next) d) all (l .inv .1) in
     (done .told, done .coming)
 
 pub moves-spec : {M : Type 1} → statement M
