@@ -9,7 +9,7 @@ use lib.Seq.{drop-cons, getD-take}
 use borrow.Author.Tests.{eq-eqb, ne-eqb, lt-ltb, le-ltb}
 use Rattle.definitions.specs.Basics.{_>>=_}
 use Rattle.definitions.specs.Limits.{commands, largestCost, longestList}
-use Rattle.definitions.specs.Tree.{Tree, Sound}
+use Rattle.definitions.specs.Tree.{Tree, UsedNode, Sound}
 use Rattle.definitions.specs.Step.{Arrival, step}
 use Rattle.definitions.specs.Choose.{Used, usedPart, usedOf}
 use Rattle.definitions.proofs.Path.{climb-found, enter-enters, enters-state}
@@ -75,18 +75,25 @@ looked-at k list i h =
 
 -- ---- the loop
 
--- The loop's invariant: s is a state in use, i commands at this cost lead to it, and what is used from there on, with these before it, is what
+-- The loop's invariant: s is a state, i commands at this cost lead to it, and what is used from there on, with these before it, is what
 -- is used of the whole list.
 pub record Upto (t : Tree) (a b : ℕ) (list : List ℕ) (s i cost : ℕ) : Type 0 where
-  pub used : (m : ℕ) × (t .owner s ≡ some m)
+  pub used : UsedNode t s
+  pub plain : t .below s ≡ none
   pub short : i ≤ min (length list) longestList
   pub cheap : cost ≤ i * largestCost
   pub same : usedOf t a b list ≡ shifted i cost (usedPart t b s (drop i (take longestList list)))
 
 -- before the first command
-pub upto-none : (t : Tree) (a b : ℕ) (list : List ℕ) → (m : ℕ) × (t .owner a ≡ some m) → Upto t a b list a 0 0
-upto-none t a b list own =
-    record { used = own; short = omega arith; cheap = omega arith; same = shifted-none (usedPart t b a (take longestList list)) }
+pub upto-none : (t : Tree) (a b : ℕ) (list : List ℕ) → UsedNode t a → t .below a ≡ none → Upto t a b list a 0 0
+upto-none t a b list used plain =
+    record {
+      used = used;
+      plain = plain;
+      short = omega arith;
+      cheap = omega arith;
+      same = shifted-none (usedPart t b a (take longestList list));
+    }
 
 module _ {t : Tree} (sound : Sound t) {a b : ℕ} {list : List ℕ} {s i cost : ℕ} (upto : Upto t a b list s i cost) where
   -- where s is b
@@ -114,26 +121,27 @@ module _ {t : Tree} (sound : Sound t) {a b : ℕ} {list : List ℕ} {s i cost : 
     upto-over over = sym (here ∙ ap (shifted i cost) (part-over t e x (drop (i + 1) (take longestList list)) over))
 
     -- a stop
-    pub upto-stops : x < commands → none ≡ step t s x → none ≡ usedOf t a b list
-    upto-stops range stop = sym (here ∙ ap (shifted i cost) (part-stops t e x (drop (i + 1) (take longestList list)) range (sym stop)))
+    pub upto-stops : x < commands → step t s x ≡ none → none ≡ usedOf t a b list
+    upto-stops range stop = sym (here ∙ ap (shifted i cost) (part-stops t e x (drop (i + 1) (take longestList list)) range stop))
 
     -- one command more
-    pub upto-moves : x < commands → {n c : ℕ} → some (record { node = n; cost = c }) ≡ step t s x → Upto t a b list n (i + 1) (cost + c)
+    pub upto-moves : x < commands → {n c : ℕ} → step t s x ≡ some (record { node = n; cost = c }) → Upto t a b list n (i + 1) (cost + c)
     upto-moves range {n} {c} moved =
-        let cheap = step-cost sound (t .root) s x (sym moved) in
-        let stepped = step-stepped t (t .root) s x (sym moved) in
+        let cheap = step-cost sound (t .root) s x moved in
+        let stepped = step-stepped t (t .root) s x moved in
         let target = climb-found sound (t .root) s x (stepped .finds) .target-owner in
         let (m, own, plain) = enters-state sound (enter-enters sound target (stepped .enters)) target in
         record {
           used = (m, own);
+          plain = plain;
           short = omega arith;
           cheap = omega (arith, upto .cheap);
           same =
               here
-              ∙ ap (shifted i cost) (part-moves t e x (drop (i + 1) (take longestList list)) range (sym moved))
+              ∙ ap (shifted i cost) (part-moves t e x (drop (i + 1) (take longestList list)) range moved)
               ∙ shifted-more i cost c (usedPart t b n (drop (i + 1) (take longestList list)));
         }
 
     -- the sum of costs fits
-    pub upto-fits : x < commands → {n c : ℕ} → some (record { node = n; cost = c }) ≡ step t s x → cost + c ≤ 65536 * largestCost
-    upto-fits range moved = omega (arith, upto .cheap, step-cost sound (t .root) s x (sym moved))
+    pub upto-fits : x < commands → {n c : ℕ} → step t s x ≡ some (record { node = n; cost = c }) → cost + c ≤ 65536 * largestCost
+    upto-fits range moved = omega (arith, upto .cheap, step-cost sound (t .root) s x moved)

@@ -1,5 +1,6 @@
 // Choose: the used part of the cheaper of two lists of commands (document 01, "Writing, choosing, the session").
 ghost use mathlib.Core.Path.{_≡_};
+ghost use mathlib.Core.Option.{none};
 ghost use Prim.Native.Nat.{_<_, min};
 ghost use lib.ListN.{length, getD};
 ghost use Rattle.definitions.specs.Limits.{longestList};
@@ -7,7 +8,7 @@ ghost use Rattle.definitions.specs.Tree.{UsedNode};
 ghost use Rattle.definitions.specs.Book.{treeOf, WellFormed};
 ghost use Rattle.definitions.specs.Choose.{usedOf, cheaper, ChoiceSays, ChooseSays};
 ghost use Rattle.choosing.specs.Meaning.{usedIn, chosenBy, choiceOf, numberOf, Numbered};
-use stepping::Stepped;
+use stepping::StepAnswer;
 
 // How many commands of a list are used up to its first arrival, and their cost; or that it ends before.
 pub enum Part {
@@ -40,7 +41,7 @@ fn limit(n: usize) -> usize
 
 // The used part of a list from state a up to its first arrival at b.
 fn used_part(book: &[u32], a: u32, b: u32, list: &[u8]) -> Part
-    requires { ⌜ WellFormed (now book) × UsedNode (treeOf (now book)) a ⌝ }
+    requires { ⌜ WellFormed (now book) × UsedNode (treeOf (now book)) a × (treeOf (now book) .below a ≡ none) ⌝ }
     ensures { λ r. ⌜ usedIn r ≡ usedOf (treeOf (now (book .entry))) a b (now (list .entry)) ⌝ }
 {
     let end = limit(list.len());
@@ -55,7 +56,7 @@ fn used_part(book: &[u32], a: u32, b: u32, list: &[u8]) -> Part
         if 16 <= x {
             return Part::Ends; // a byte over 15
         }
-        let Stepped::Moved {
+        let StepAnswer::Moved {
             state: next,
             cost: c,
         } = stepping::step_from(book, s, x)

@@ -1,5 +1,5 @@
 -- Refusals in their order: what an answer tells of them, and that the answer is one where document 01 leaves nothing free. Assumes nothing.
-use mathlib.Core.Path.{_≡_, sym, ap, _∙_}
+use mathlib.Core.Path.{_≡_, refl, sym, ap, _∙_}
 use mathlib.Core.Logic.{_⊎_, inl, inr, ⊎-elim}
 use mathlib.Core.Bool.{Bool, true, not, _&&_}
 use mathlib.Core.Option.{Option, none, some}
@@ -7,11 +7,11 @@ use mathlib.Core.List.{List, [], _∷_}
 use Prim.Native.Nat.{ℕ, suc, _-_, _≤_, _<_}
 use native.Mathlib.Omega.{arith}
 use lib.Dec.{eqb}
-use lib.ListN.{length}
+use lib.ListN.{length, getD}
 use borrow.Author.Tests.{eqb-false, not-true}
 use Rattle.definitions.specs.Basics.{Least}
-use Rattle.definitions.specs.Limits.{sheetLength}
-use Rattle.definitions.specs.Tree.{Tree, states}
+use Rattle.definitions.specs.Limits.{commands, sheetLength}
+use Rattle.definitions.specs.Tree.{Tree, UsedNode, states}
 use Rattle.definitions.specs.Step.{Arrival, step}
 use Rattle.definitions.specs.Costs.{LeastCost}
 use Rattle.definitions.specs.Sheet.{Rows, rowsOf, encodeRows}
@@ -20,7 +20,7 @@ use Rattle.definitions.specs.Truth.{TrueSheet}
 use Rattle.definitions.specs.Load.{load}
 use Rattle.definitions.specs.Answer.{Answer, gives, refuses, Refusal, refuse, asks, wants, wantsLeast, asksRoom, InOrder}
 use Rattle.definitions.specs.Calls.{RightLengths, bookRefusals, sheetRefusals, stateRefusals, exitRefusals, stepRefusals, planRefusals}
-use Rattle.definitions.specs.Calls.{OpenSays, LoadAnswer, LoadDone, LoadSays, ExitSays, StepSays, GivesPlan, PlanSays}
+use Rattle.definitions.specs.Calls.{OpenSays, LoadAnswer, LoadDone, LoadSays, ExitSays, GivesStep, StepSays, GivesPlan, PlanSays}
 use Rattle.definitions.specs.Choose.{Choice, first, cheaperOf, partOf, placeOf, ChoiceSays, ChooseSays}
 use Rattle.definitions.specs.Write.{written, WriteSays}
 use Rattle.definitions.specs.Open.{openRows}
@@ -140,6 +140,37 @@ module _ (book sheet : List ℕ) (w : WellFormed book) (s : TrueSheet (treeOf bo
   plan-on a b buffer {answer} {buffer′} =
       lent-on book sheet (planRefusals (treeOf book) (rowsOf sheet) a b (length buffer)) (Keeps answer buffer buffer′)
       (GivesPlan (treeOf book) a b buffer answer buffer′) w s
+
+-- ---- Step at a state of a well-formed book
+
+-- what is left of Step's answer there: 17, or what it gives
+abbrev pub StepDone : Tree → ℕ → ℕ → Answer → Type 0
+StepDone t s x answer = InOrder (wants 17 (step t s x) ∷ []) (Refuses answer) (GivesStep t s x answer)
+
+-- on a well-formed book, at a state and for a command, Step says that and nothing else
+module _ (book : List ℕ) (w : WellFormed book) {s x : ℕ} (used : UsedNode (treeOf book) s) (plain : treeOf book .below s ≡ none) (range : x < commands)
+    {answer : Answer} where
+  pub done-says : StepDone (treeOf book) s x answer → StepSays book s x answer
+  done-says i = inr (w .length, inr (w, inr ((w .sound .node-range s (used .0) (used .1), range), inr (used, inr (plain, i)))))
+
+  pub says-done : StepSays book s x answer → StepDone (treeOf book) s x answer
+  says-done (inl (wrong, e)) = absurd (wrong (w .length))
+  says-done (inr (long, inl (torn, e))) = absurd (torn w)
+  says-done (inr (long, inr (formed, inl (out, e)))) = absurd (out (w .sound .node-range s (used .0) (used .1), range))
+  says-done (inr (long, inr (formed, inr (inside, inl (unused, e))))) = absurd (none-some unused (used .1))
+  says-done (inr (long, inr (formed, inr (inside, inr (owned, inl (refined, e)))))) = absurd (refined plain)
+  says-done (inr (long, inr (formed, inr (inside, inr (owned, inr (state, i)))))) = i
+
+-- what it tells of the step
+module _ (t : Tree) (s x : ℕ) where
+  pub done-moved : {n c : ℕ} → StepDone t s x (gives (n ∷ c ∷ [])) → step t s x ≡ some (record { node = n; cost = c })
+  done-moved (inl (stop, e)) = absurd (given-refused refl e)
+  done-moved (inr (there, (a, moved, same))) =
+      moved ∙ sym (ap (λ (r : Answer). some (record { node = getD (r .values) 0 0; cost = getD (r .values) 1 0 })) same)
+
+  pub done-stopped : {k : ℕ} → StepDone t s x (refuses k) → step t s x ≡ none
+  done-stopped (inl (stop, e)) = stop
+  done-stopped (inr (there, (a, moved, same))) = absurd (given-refused same refl)
 
 -- ---- the calls' refusals exclude their other sides
 

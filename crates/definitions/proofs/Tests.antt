@@ -19,8 +19,8 @@ use Rattle.definitions.specs.Costs.{LeastCost, ExitCost}
 use Rattle.definitions.specs.Book.{under, encode}
 use Rattle.definitions.specs.Sheet.{Rows, encodeRows}
 use Rattle.definitions.specs.Truth.{nodeExit, move, BlankMachine, BlankNode, BlankRule, Named, Ended, TrueRows, TrueSheet}
-use Rattle.definitions.specs.Answer.{Answer, gives, refuses, asks, wants, InOrder}
-use Rattle.definitions.specs.Calls.{StepSays, Plan, PlanSays}
+use Rattle.definitions.specs.Answer.{Answer, refuses, asks, wants, InOrder}
+use Rattle.definitions.specs.Calls.{GivesStep, StepSays, Plan, PlanSays}
 use Rattle.definitions.proofs.Options.{bind-some, none-some, some-same, true-false, decided, equal-or-not, and-true}
 use Rattle.definitions.proofs.Options.{isAt-true, isSome-true, isSome-false}
 use Rattle.definitions.proofs.Lists.{no-value}
@@ -171,8 +171,7 @@ rows-sheet t r range holds =
 -- what is left of Step's answer for a node and a command in range, the node in use
 abbrev pub StepOn : Tree → ℕ → ℕ → Answer → Type 0
 StepOn t n x answer =
-    InOrder (asks 14 (t .below n ≡ none) ∷ wants 17 (step t n x) ∷ []) (λ k. answer ≡ refuses k)
-    ((a : Arrival) × (step t n x ≡ some a) × (answer ≡ gives (a .node ∷ a .cost ∷ [])))
+    InOrder (asks 14 (t .below n ≡ none) ∷ wants 17 (step t n x) ∷ []) (λ k. answer ≡ refuses k) (GivesStep t n x answer)
 
 -- it is Step's answer on the book of a sound tree
 pub step-says : (t : Tree) → Sound t → (n x : ℕ) (answer : Answer) → n < nodes → x < commands → {p : ℕ} → t .owner n ≡ some p

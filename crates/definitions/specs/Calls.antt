@@ -79,11 +79,13 @@ abbrev pub stepRefusals : Tree → ℕ → ℕ → List Refusal
 stepRefusals t s x =
     asks 6 ((s < nodes) × (x < commands)) ∷ wants 7 (t .owner s) ∷ asks 14 (t .below s ≡ none) ∷ wants 17 (step t s x) ∷ []
 
+-- a step is given: the state and the cost
+abbrev pub GivesStep : Tree → ℕ → ℕ → Answer → Type 0
+GivesStep t s x answer = (a : Arrival) × (step t s x ≡ some a) × (answer ≡ gives (a .node ∷ a .cost ∷ []))
+
 abbrev pub StepSays : List ℕ → ℕ → ℕ → Answer → Type 0
 StepSays book s x answer =
-    InOrder (bookRefusals book (stepRefusals (treeOf book) s x))
-    (λ k. answer ≡ refuses k)
-    ((a : Arrival) × (step (treeOf book) s x ≡ some a) × (answer ≡ gives (a .node ∷ a .cost ∷ [])))
+    InOrder (bookRefusals book (stepRefusals (treeOf book) s x)) (λ k. answer ≡ refuses k) (GivesStep (treeOf book) s x answer)
 
 -- a cheapest list from a to b: it moves the station there, passes no state twice, and no list that does costs less
 pub record Plan (t : Tree) (a b cost : ℕ) (list : List ℕ) : Type 0 where

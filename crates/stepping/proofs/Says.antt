@@ -41,13 +41,6 @@ module _ (book : List ℕ) (s x : ℕ) where
               inr (w, inr (range, inr (is-used, inl (λ plain. none-some plain (present-word (treeOf book .below s) f held), refl)))),
             )
 
-        module _ {b : ℕ} (f : b ≡ word (treeOf book .below s)) (plain : b ≡ absent) where
-          is-plain : treeOf book .below s ≡ none
-          is-plain = no-below (treeOf book) (w .sound) s f plain
-
-          pub says-stopped : none ≡ step (treeOf book) s x → StepSays book s x (refuses 17)
-          says-stopped stop = inr (w .length, inr (w, inr (range, inr (is-used, inr (is-plain, inl (sym stop, refl))))))
-
-          pub says-moved : {n c : ℕ} → some (record { node = n; cost = c }) ≡ step (treeOf book) s x → StepSays book s x (gives (n ∷ c ∷ []))
-          says-moved moved =
-              inr (w .length, inr (w, inr (range, inr (is-used, inr (is-plain, inr ((_, sym moved), (_, sym moved, refl)))))))
+        -- and a state where it is not refined
+        pub is-plain : {b : ℕ} → b ≡ word (treeOf book .below s) → b ≡ absent → treeOf book .below s ≡ none
+        is-plain f plain = no-below (treeOf book) (w .sound) s f plain

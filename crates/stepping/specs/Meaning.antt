@@ -1,18 +1,15 @@
 -- What the answers of this crate's functions mean.
 use mathlib.Core.Path.{_≡_}
-use mathlib.Core.Option.{Option, none, some}
 use mathlib.Core.List.{[], _∷_}
 use Prim.Native.Nat.{ℕ}
 use Rattle.definitions.specs.Tree.{Tree}
-use Rattle.definitions.specs.Step.{Climb, found, passed, Arrival}
+use Rattle.definitions.specs.Step.{Climb, found, passed}
 use Rattle.definitions.specs.Answer.{Answer, gives, refuses, InOrder}
 use Rattle.definitions.specs.Calls.{stateRefusals}
 use Rattle.stepping.specs.declared.StepAnswer.{StepAnswer}
 use Rattle.stepping.specs.declared.StepAnswer.the-variants as StepAnswer
 use Rattle.stepping.specs.declared.Climbed.{Climbed}
 use Rattle.stepping.specs.declared.Climbed.the-variants.{Found, Passed}
-use Rattle.stepping.specs.declared.Stepped.{Stepped}
-use Rattle.stepping.specs.declared.Stepped.the-variants.{Moved, Stopped}
 
 -- what Step's answer says by document 01's number and values
 abbrev pub answerOf : StepAnswer → Answer
@@ -22,10 +19,6 @@ answerOf (StepAnswer.Refused k) = refuses k
 abbrev pub climbOf : Climbed → Climb
 climbOf (Found n v c) = found n v c
 climbOf Passed = passed 0
-
-abbrev pub stepOf : Stepped → Option Arrival
-stepOf (Moved s c) = some (record { node = s; cost = c })
-stepOf Stopped = none
 
 -- r is the first of the refusals 6, 7, 14 of two states that holds, and 0 where none does
 abbrev pub StatesJudged : Tree → ℕ → ℕ → ℕ → Type 0

@@ -1,24 +1,18 @@
 // One command at a state of a well-formed book (document 01, "The tree and its step").
 ghost use mathlib.Core.Path.{_≡_};
-ghost use mathlib.Core.Option.{some};
+ghost use mathlib.Core.Option.{none, some};
 ghost use Prim.Native.Nat.{_<_};
 ghost use Rattle.definitions.specs.Limits.{commands};
 ghost use Rattle.definitions.specs.Tree.{UsedNode, level};
 ghost use Rattle.definitions.specs.Book.{treeOf, WellFormed};
-ghost use Rattle.definitions.specs.Step.{enter, climb, step};
+ghost use Rattle.definitions.specs.Step.{enter, climb};
 ghost use Rattle.definitions.specs.Calls.{StepSays};
-ghost use Rattle.stepping.specs.Meaning.{climbOf, stepOf, StatesJudged, answerOf};
+ghost use Rattle.stepping.specs.Meaning.{climbOf, StatesJudged, answerOf};
 
 // Where a command finds a transition: the node that has it, its target and its cost; or that it finds none.
 pub enum Climbed {
     Found { node: u32, target: u32, cost: u32 },
     Passed,
-}
-
-// Where a command leads, and what it costs; or that the station stops.
-pub enum Stepped {
-    Moved { state: u32, cost: u32 },
-    Stopped,
 }
 
 // Step's answer: the state and the cost, or a refusal's number.
@@ -35,6 +29,7 @@ fn climb(book: &[u32], s: u32, x: u32) -> Climbed
     let mut n = s;
     loop {
         let w = book::counting(book, n, x);
+        let h = book::holder(book, book::owner(book, n));
         if w != book::BLANK {
             return Climbed::Found {
                 node: n,
@@ -42,7 +37,6 @@ fn climb(book: &[u32], s: u32, x: u32) -> Climbed
                 cost: w % 65536,
             };
         }
-        let h = book::holder(book, book::owner(book, n));
         if h == book::ABSENT {
             return Climbed::Passed;
         }
@@ -82,21 +76,21 @@ pub fn level(book: &[u32], n: u32) -> u32
     }
 }
 
-// What command x does at state s.
-pub fn step_from(book: &[u32], s: u32, x: u32) -> Stepped
-    requires { ⌜ WellFormed (now book) × UsedNode (treeOf (now book)) s × (x < commands) ⌝ }
-    ensures { λ r. ⌜ stepOf r ≡ step (treeOf (now (book .entry))) s x ⌝ }
+// Step at a state of a book that is known to be well formed, where 17 alone is left to refuse. Step ends in it, and Choose is made of it.
+pub fn step_from(book: &[u32], s: u32, x: u32) -> StepAnswer
+    requires { ⌜ WellFormed (now book) × UsedNode (treeOf (now book)) s × (treeOf (now book) .below s ≡ none) × (x < commands) ⌝ }
+    ensures { λ r. ⌜ StepSays (now (book .entry)) s x (answerOf r) ⌝ }
 {
     match climb(book, s, x) {
         Climbed::Found {
             node: _,
             target,
             cost,
-        } => Stepped::Moved {
+        } => StepAnswer::Moved {
             state: enter(book, target),
             cost,
         },
-        Climbed::Passed => Stepped::Stopped,
+        Climbed::Passed => StepAnswer::Refused(17),
     }
 }
 
@@ -149,8 +143,5 @@ pub fn step(book: &[u32], state: u32, command: u32) -> StepAnswer
     if book::below(book, state) != book::ABSENT {
         return StepAnswer::Refused(14);
     }
-    match step_from(book, state, command) {
-        Stepped::Moved { state, cost } => StepAnswer::Moved { state, cost },
-        Stepped::Stopped => StepAnswer::Refused(17),
-    }
+    step_from(book, state, command)
 }

@@ -54,10 +54,10 @@ states c =
     both-states (treeOf (now (a .book))) (a .a) (a .b) (j .judge-states .result) (j .judge-states .ensures) (c .if3 .left)
 
 used-part-requires : tie.Need-used-part-requires
-used-part-requires c κs = (formed (c .before .before), states c .used .0)
+used-part-requires c κs = (formed (c .before .before), states c .used .0, states c .plain .0)
 
 used-part-requires-2 : tie.Need-used-part-requires-2
-used-part-requires-2 c κs = (formed (c .before .before .before), states (c .before) .used .0)
+used-part-requires-2 c κs = (formed (c .before .before .before), states (c .before) .used .0, states (c .before) .plain .0)
 
 cheaper-requires : tie.Need-cheaper-requires
 cheaper-requires c κs = search needs

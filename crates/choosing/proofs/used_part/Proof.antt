@@ -1,6 +1,6 @@
 -- `choosing::used_part` meets its contract: what is used from the state in hand on, with the commands passed before it, is what is used of
 -- the whole list. Assumes nothing.
-use mathlib.Core.Path.{_≡_, sym, _∙_, ap, subst}
+use mathlib.Core.Path.{_≡_, sym, subst}
 use Prim.Native.Nat.{ℕ, _+_, _-_, _*_, _≤_, _<_, min}
 use native.Mathlib.Omega.{arith}
 use lib.ListN.{length}
@@ -8,7 +8,10 @@ use borrow.Author.Needs.{needs}
 use denote.Ref.{now}
 use Rattle.definitions.specs.Limits.{largestCost, longestList}
 use Rattle.definitions.specs.Book.{treeOf}
-use Rattle.stepping.specs.Meaning.{stepOf}
+use Rattle.definitions.specs.Calls.{StepSays}
+use Rattle.definitions.proofs.Answers.{StepDone, says-done, done-moved, done-stopped}
+use Rattle.stepping.specs.Meaning.{answerOf}
+use Rattle.stepping.specs.declared.StepAnswer.{StepAnswer}
 use Rattle.choosing.proofs.Laws.{Upto, upto-none, upto-arrives, upto-ends, upto-over, upto-stops, upto-moves, upto-fits}
 use Rattle.choosing.proofs.used_part.Statement.{statement}
 use Rattle.choosing.proofs.used_part.Tie as tie
@@ -25,7 +28,7 @@ limit-requires c κs = search needs
 loop-holds : tie.Need-loop-holds Inv-loop μ-loop
 loop-holds c =
     let e = c .before .before .before in
-    (c .limit .ensures, upto-none (treeOf (now (e .args .book))) (e .args .a) (e .args .b) (now (e .args .list)) (e .pre .1))
+    (c .limit .ensures, upto-none (treeOf (now (e .args .book))) (e .args .a) (e .args .b) (now (e .args .list)) (e .pre .1) (e .pre .2))
 
 returns : tie.Need-returns Inv-loop μ-loop
 returns c =
@@ -48,13 +51,25 @@ step-from-requires : tie.Need-step-from-requires Inv-loop μ-loop
 step-from-requires c κs =
     let l = c .before .before .before .before in
     let e = l .before .before .before .before in
-    (e .pre .0, l .loop .inv .1 .used, c .if2 .left)
+    (e .pre .0, l .loop .inv .1 .used, l .loop .inv .1 .plain, c .if2 .left)
 
 enum-known-next : tie.Need-enum-known-next Inv-loop μ-loop
 enum-known-next c = search needs
 
 enum-told : tie.Need-enum-told Inv-loop μ-loop
 enum-told c = search needs
+
+-- the step, by Step's own promise
+done : (c : tie.After-step-from Inv-loop μ-loop) (r : StepAnswer)
+    → let l = c .before .before .before .before .before in
+    let e = l .before .before .before .before in
+    c .step-from .result ≡ r → StepDone (treeOf (now (e .args .book))) (l .loop .s) (c .before .before .command-at .result) (answerOf r)
+done c r same =
+    let k = c .before in
+    let l = k .before .before .before .before in
+    let e = l .before .before .before .before in
+    says-done (now (e .args .book)) (e .pre .0) (l .loop .inv .1 .used) (l .loop .inv .1 .plain) (k .if2 .left)
+    (subst (λ (z : StepAnswer). StepSays (now (e .args .book)) (l .loop .s) (k .before .command-at .result) (answerOf z)) same (c .step-from .ensures))
 
 returns-3 : tie.Need-returns-3 Inv-loop μ-loop
 returns-3 c =
@@ -64,7 +79,8 @@ returns-3 c =
     let l = f .before .before in
     let e = l .before .before .before .before in
     upto-stops (e .pre .0 .sound) (l .loop .inv .1) (f .before .loop-test .taken) (omega (arith, f .if1 .left, l .loop .inv .0)) (k .before .command-at .result)
-    (k .before .command-at .ensures) (k .if2 .left) (ap stepOf (sym (c .enum-told .given .1)) ∙ g .step-from .ensures)
+    (k .before .command-at .ensures) (k .if2 .left)
+    (done-stopped (treeOf (now (e .args .book))) (l .loop .s) (k .before .command-at .result) (done g _ (c .enum-told .given .1)))
 
 wide-requires : tie.Need-wide-requires Inv-loop μ-loop
 wide-requires c κs = search needs
@@ -85,7 +101,7 @@ next c =
     let l = f .before .before in
     let e = l .before .before .before .before in
     let inside : l .loop .i < min (length (now (e .args .list))) longestList = omega (arith, f .if1 .left, l .loop .inv .0) in
-    let moved = ap stepOf (sym (n .next .given .1)) ∙ g .step-from .ensures in
+    let moved = done-moved (treeOf (now (e .args .book))) (l .loop .s) (k .before .command-at .result) (done g _ (n .next .given .1)) in
     let told = c .wide .ensures .0 in (
       subst (λ (z : ℕ). Upto (treeOf (now (e .args .book))) (e .args .a) (e .args .b) (now (e .args .list)) (n .next .given .0 .0) (l .loop .i + 1) (l .loop .cost + z)) (sym told)
           (upto-moves (e .pre .0 .sound) (l .loop .inv .1) (f .before .loop-test .taken) inside (k .before .command-at .result) (k .before .command-at .ensures) (k .if2 .left) moved),

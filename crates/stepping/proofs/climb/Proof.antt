@@ -30,56 +30,61 @@ counting-requires c κs =
     let e = c .before .before in
     (e .pre .0, used-range (now (e .args .book)) (e .pre .0) (c .loop .n) (c .loop .inv .used), e .pre .2)
 
-returns : tie.Need-returns Inv-loop μ-loop
-returns c =
-    let e = c .before .before .before .before in
-    let l = c .before .before .loop in
-    let w : ℕ = c .before .counting .result in
-    sym
-    (climbed-found (now (e .args .book)) (e .pre .0) (l .inv) (c .before .counting .ensures) (c .if1 .taken)
-    ∙ ap (λ (d : ℕ). found (l .n) (w / costs) d) (zero-add (w % costs)))
-
 owner-requires : tie.Need-owner-requires Inv-loop μ-loop
 owner-requires c κs =
-    let e = c .before .before .before .before in
-    let l = c .before .before .loop in
-    (e .pre .0 .length, used-range (now (e .args .book)) (e .pre .0) (l .n) (l .inv .used))
+    let l = c .before in
+    let e = l .before .before in
+    (e .pre .0 .length, used-range (now (e .args .book)) (e .pre .0) (l .loop .n) (l .loop .inv .used))
 
 holder-requires : tie.Need-holder-requires Inv-loop μ-loop
 holder-requires c κs =
-    let e = c .before .before .before .before .before in
-    let l = c .before .before .before .loop in
-    (e .pre .0 .length, owner-told (now (e .args .book)) (e .pre .0) (l .n) (l .inv .used) (c .owner .ensures) .1)
+    let l = c .before .before in
+    let e = l .before .before in
+    (e .pre .0 .length, owner-told (now (e .args .book)) (e .pre .0) (l .loop .n) (l .loop .inv .used) (c .owner .ensures) .1)
+
+returns : tie.Need-returns Inv-loop μ-loop
+returns c =
+    let a = c .before .before .before in
+    let l = a .before in
+    let e = l .before .before in
+    let w : ℕ = a .counting .result in
+    sym
+    (climbed-found (now (e .args .book)) (e .pre .0) (l .loop .inv) (a .counting .ensures) (c .if1 .taken)
+    ∙ ap (λ (d : ℕ). found (l .loop .n) (w / costs) d) (zero-add (w % costs)))
 
 returns-2 : tie.Need-returns-2 Inv-loop μ-loop
 returns-2 c =
-    let h = c .before in
+    let f = c .before in
+    let h = f .before in
     let o = h .before in
     let a = o .before in
-    let e = a .before .before .before .before in
+    let l = a .before in
+    let e = l .before .before in
     sym
-    (climbed-ends (now (e .args .book)) (e .pre .0) (a .before .before .loop .inv) (a .before .counting .ensures) (a .if1 .left)
-    (o .owner .ensures) (h .holder .ensures) (c .if2 .taken))
+    (climbed-ends (now (e .args .book)) (e .pre .0) (l .loop .inv) (a .counting .ensures) (f .if1 .left) (o .owner .ensures) (h .holder .ensures)
+    (c .if2 .taken))
 
 loop-less : tie.Need-loop-less Inv-loop μ-loop
 loop-less c =
-    let h = c .before in
+    let h = c .before .before in
     let o = h .before in
-    let l = o .before .before .before .loop in
-    let e = o .before .before .before .before .before in
-    higher (now (e .args .book)) (e .pre .0) (l .n) (l .inv .used) (o .owner .ensures) (h .holder .ensures) (c .if2 .left)
+    let l = o .before .before in
+    let e = l .before .before in
+    higher (now (e .args .book)) (e .pre .0) (l .loop .n) (l .loop .inv .used) (o .owner .ensures) (h .holder .ensures) (c .if2 .left)
 
 loop-again : tie.Need-loop-again Inv-loop μ-loop
 loop-again c =
-    let h = c .before in
+    let f = c .before in
+    let h = f .before in
     let o = h .before in
     let a = o .before in
-    let e = a .before .before .before .before in
+    let l = a .before in
+    let e = l .before .before in
     let t = treeOf (now (e .args .book)) in
     let free : 0 + leaving t (o .owner .result) ≡ 0 = omega (arith, leaving-free t (o .owner .result)) in
     rw free
-    at (climbed-on (now (e .args .book)) (e .pre .0) (a .before .before .loop .inv) (a .before .counting .ensures) (a .if1 .left)
-    (o .owner .ensures) (h .holder .ensures) (c .if2 .left))
+    at (climbed-on (now (e .args .book)) (e .pre .0) (l .loop .inv) (a .counting .ensures) (f .if1 .left) (o .owner .ensures) (h .holder .ensures)
+    (c .if2 .left))
 
 pub climb-spec : {M : Type 1} → statement M
 climb-spec =
@@ -89,9 +94,9 @@ climb-spec =
     μ-loop
     loop-holds
     counting-requires
-    returns
     owner-requires
     holder-requires
+    returns
     returns-2
     loop-less
     loop-again)

@@ -1,12 +1,10 @@
 -- `stepping::step` meets its contract: each way out shows its refusal, or that none holds. Assumes nothing.
-use mathlib.Core.Path.{sym, _∙_, ap}
 use native.Mathlib.Omega.{arith}
 use borrow.Author.Needs.{needs}
 use denote.Ref.{now}
 use Rattle.definitions.specs.Book.{WellFormed}
 use Rattle.book.proofs.Decide.{passed, refused}
-use Rattle.stepping.specs.Meaning.{stepOf}
-use Rattle.stepping.proofs.Says.{says-length, says-torn, says-range, says-unused, says-refined, is-used, says-stopped, says-moved}
+use Rattle.stepping.proofs.Says.{says-length, says-torn, says-range, says-unused, says-refined, is-used, is-plain}
 use Rattle.stepping.proofs.step.Statement.{statement}
 use Rattle.stepping.proofs.step.Tie as tie
 
@@ -65,39 +63,17 @@ step-from-requires c κs =
     let u = c .before .before in
     let o = u .before in
     let f = o .before .before .before in
-    let e = f .before .before .before .before in (
+    let e = f .before .before .before .before in
+    let in-use = is-used (now (e .args .book)) (e .args .state) (e .args .command) (formed f) (o .before .before .if3 .left, o .before .if4 .left) (o .owner .ensures) (u .if5 .left) in (
       formed f,
-      is-used (now (e .args .book)) (e .args .state) (e .args .command) (formed f) (o .before .before .if3 .left, o .before .if4 .left) (o .owner .ensures) (u .if5 .left),
+      in-use,
+      is-plain (now (e .args .book)) (e .args .state) (e .args .command) (formed f) (o .before .before .if3 .left, o .before .if4 .left) (o .owner .ensures) (u .if5 .left)
+          (c .before .below .ensures) (c .if6 .left),
       o .before .if4 .left,
     )
 
-enum-known-state : tie.Need-enum-known-state
-enum-known-state c = search needs
-
-enum-told : tie.Need-enum-told
-enum-told c = search needs
-
 returns-7 : tie.Need-returns-7
-returns-7 c =
-    let g = c .before .before .before in
-    let h = g .before in
-    let u = h .before .before in
-    let o = u .before in
-    let f = o .before .before .before in
-    let e = f .before .before .before .before in
-    says-moved (now (e .args .book)) (e .args .state) (e .args .command) (formed f) (o .before .before .if3 .left, o .before .if4 .left) (o .owner .ensures) (u .if5 .left)
-    (h .before .below .ensures) (h .if6 .left) (ap stepOf (sym (c .before .state .given .1)) ∙ g .step-from .ensures)
-
-returns-8 : tie.Need-returns-8
-returns-8 c =
-    let g = c .before .before in
-    let h = g .before in
-    let u = h .before .before in
-    let o = u .before in
-    let f = o .before .before .before in
-    let e = f .before .before .before .before in
-    says-stopped (now (e .args .book)) (e .args .state) (e .args .command) (formed f) (o .before .before .if3 .left, o .before .if4 .left) (o .owner .ensures) (u .if5 .left)
-    (h .before .below .ensures) (h .if6 .left) (ap stepOf (sym (c .enum-told .given .1)) ∙ g .step-from .ensures)
+returns-7 c = c .step-from .ensures
 
 pub step-spec : {M : Type 1} → statement M
 step-spec =
@@ -113,7 +89,4 @@ step-spec =
     below-requires
     returns-6
     step-from-requires
-    enum-known-state
-    enum-told
-    returns-7
-    returns-8)
+    returns-7)

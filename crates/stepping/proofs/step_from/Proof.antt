@@ -1,15 +1,17 @@
 -- `stepping::step_from` meets its contract: what the climb finds is entered. Assumes nothing.
-use mathlib.Core.Path.{sym, _∙_, ap}
+use mathlib.Core.Path.{refl, sym, _∙_, ap}
+use mathlib.Core.Logic.{inl, inr}
 use borrow.Author.Needs.{needs}
 use denote.Ref.{now}
 use Rattle.definitions.specs.Book.{treeOf}
+use Rattle.definitions.proofs.Answers.{done-says}
 use Rattle.stepping.specs.Meaning.{climbOf}
 use Rattle.stepping.proofs.Laws.{target-used, step-found, step-passed}
 use Rattle.stepping.proofs.step_from.Statement.{statement}
 use Rattle.stepping.proofs.step_from.Tie as tie
 
 climb-requires : tie.Need-climb-requires
-climb-requires c κs = search needs
+climb-requires c κs = let e = c .before in (e .pre .0, e .pre .1, e .pre .3)
 
 enum-known-target : tie.Need-enum-known-target
 enum-known-target c = search needs
@@ -28,14 +30,17 @@ returns : tie.Need-returns
 returns c =
     let k = c .before .before in
     let e = k .before .before .before .before in
+    let t = treeOf (now (e .args .book)) in
     let up = ap climbOf (sym (k .target .given .1)) ∙ k .before .before .climb .ensures in
-    step-found (treeOf (now (e .args .book))) (e .pre .0 .sound) (e .args .s) (e .args .x) up (c .enter .ensures)
+    let moved = step-found t (e .pre .0 .sound) (e .args .s) (e .args .x) up (c .enter .ensures) in
+    done-says (now (e .args .book)) (e .pre .0) (e .pre .1) (e .pre .2) (e .pre .3) (inr ((_, sym moved), (_, sym moved, refl)))
 
 returns-2 : tie.Need-returns-2
 returns-2 c =
     let e = c .before .before .before .before in
+    let t = treeOf (now (e .args .book)) in
     let up = ap climbOf (sym (c .enum-told .given .1)) ∙ c .before .before .climb .ensures in
-    step-passed (treeOf (now (e .args .book))) (e .pre .0 .sound) (e .args .s) (e .args .x) up
+    done-says (now (e .args .book)) (e .pre .0) (e .pre .1) (e .pre .2) (e .pre .3) (inl (sym (step-passed t (e .pre .0 .sound) (e .args .s) (e .args .x) up), refl))
 
 pub step-from-spec : {M : Type 1} → statement M
 step-from-spec = tie.close (tie.spec climb-requires enum-known-target enter-requires enum-told returns returns-2)
