@@ -1,7 +1,7 @@
 /*
 ** Opens a holding, loads the stream whose hexadecimal text is named on the command line, refreshes it, and prints the cheapest plan
-** from state 0 to state 2 and from state 2 to state 11, with each state that the station passes. Then it merges the book with itself,
-** and plans from state 0 to state 2 again and between the same states of the twin.
+** from state 0 to state 2 and from state 2 to state 11, with each state that the station passes and the node and level that acted. Then
+** it merges the book with itself, and plans from state 0 to state 2 again and between the same states of the twin.
 */
 #include <ctype.h>
 #include <stdio.h>
@@ -39,14 +39,27 @@ static void load(const uint8_t *bytes, size_t length) {
   printf("loaded %llu bytes, %llu commands\n", (unsigned long long)bytes_taken, (unsigned long long)commands_taken);
 }
 
+/* Words of the book: the machine that a node belongs to, the machine below a node, and the node that holds a machine. */
+static uint32_t owner(uint32_t node) { return book[129 + 18 * node]; }
+static uint32_t below(uint32_t node) { return book[130 + 18 * node]; }
+static uint32_t holder(uint32_t machine) { return book[1 + 2 * machine]; }
+
+/* The level of a node's machine: 1 for the root. */
+static unsigned level_of(uint32_t node) {
+  unsigned level = 1;
+  for (uint32_t machine = owner(node); machine != book[0]; machine = owner(holder(machine))) level++;
+  return level;
+}
+
 static void show_plan(uint32_t from, uint32_t to) {
   uint8_t plan[HIMM_PLAN_BYTES];
-  uint32_t cost, count, state = from;
+  uint32_t cost, count, node, state = from;
   must("plan", himm_plan(book, HIMM_BOOK_WORDS, sheet, HIMM_SHEET_WORDS, from, to, plan, HIMM_PLAN_BYTES, &cost, &count));
   printf("from %u to %u: cost %u, %u commands:", (unsigned)from, (unsigned)to, (unsigned)cost, (unsigned)count);
   for (uint32_t i = 0; i < count; i++) {
-    must("step", himm_step(book, HIMM_BOOK_WORDS, state, plan[i], &state, &cost));
-    printf(" %u (to %u, cost %u)", (unsigned)plan[i], (unsigned)state, (unsigned)cost);
+    must("step", himm_step(book, HIMM_BOOK_WORDS, state, plan[i], &state, &cost, &node));
+    printf(" %u (to %u, cost %u,", (unsigned)plan[i], (unsigned)state, (unsigned)cost);
+    printf(" by node %u at level %u)", (unsigned)node, level_of(node));
   }
   printf("\n");
 }
@@ -58,8 +71,7 @@ static void merge_with_itself(void) {
   must("merge", himm_merge(old, HIMM_BOOK_WORDS, old, HIMM_BOOK_WORDS, book, HIMM_BOOK_WORDS, sheet, HIMM_SHEET_WORDS));
   printf("merged with itself: root %u", (unsigned)book[0]);
   for (uint32_t n = 0; n < HIMM_NODES; n++) {
-    const uint32_t *node = book + 129 + 18 * n; /* owner, machine below */
-    if (node[0] == book[0]) printf(", node %u holds machine %u", (unsigned)n, (unsigned)node[1]);
+    if (owner(n) == book[0]) printf(", node %u holds machine %u", (unsigned)n, (unsigned)below(n));
   }
   printf("\n");
 }

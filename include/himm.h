@@ -36,9 +36,9 @@ extern "C" {
 
 /*
 ** The version of this header, raised where a signature or a size changes. Sizes are exact, so a program and the library that it links
-** must be of one version.
+** must be of one version. What changed in version 2: himm_step also stores the node whose transition was used.
 */
-#define HIMM_VERSION 1
+#define HIMM_VERSION 2
 
 /*
 ** Limits. A machine, a node and a command are numbers from 0, each under its limit; a cost of a transition is at most
@@ -156,16 +156,21 @@ uint32_t himm_exit(const uint32_t *book, size_t book_len, const uint32_t *sheet,
                    uint32_t *cost);
 
 /*
-** himm_step: the state that one command leads to, and its cost.
+** himm_step: the state that one command leads to, its cost, and the node whose transition was used.
+**
+** The node tells which level acted: that of its machine, whose number is the node's first word in the book. Where it is not the state
+** itself, the station left every machine from the state's up to the one below that node.
 **
 **   book, book_len  read only; no sheet is needed
 **   state, command  where the station is and what it is told
 **   next            the state that it comes to
 **   cost            the cost of the transition used
+**   node            the node whose transition was used: the state, or a node that holds it
 **
 ** Refuses: HIMM_WRONG_LENGTH, HIMM_TORN_BOOK, HIMM_OUT_OF_RANGE, HIMM_NOT_IN_USE, HIMM_NOT_PLAIN, HIMM_STOPS.
 */
-uint32_t himm_step(const uint32_t *book, size_t book_len, uint32_t state, uint32_t command, uint32_t *next, uint32_t *cost);
+uint32_t himm_step(const uint32_t *book, size_t book_len, uint32_t state, uint32_t command, uint32_t *next, uint32_t *cost,
+                   uint32_t *node);
 
 /*
 ** himm_plan: a cheapest list of commands from one state to another. It passes no state twice, and no list that leads there costs less.

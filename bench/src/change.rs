@@ -11,15 +11,16 @@ type Row = (&'static str, &'static str, fn(&Side, usize, &mut Times) -> Vec<u32>
 /// The row that needs no book.
 const OPENING: Row = ("open the ladder", "himm_open_ladder", |side, _, t| side.open(t));
 
-/// The rows of each kind of book.
-const ROWS: [Row; 12] = [
+/// The rows of each kind of book. Steps are compared by state and cost, since a library before version 2 does not name the node.
+const ROWS: [Row; 13] = [
     ("plan", "himm_plan", |side, i, t| side.plan(i, t).into_iter().collect()),
     ("checks of book and sheet", "himm_exit", |side, i, t| none(side.at(i).check_both(t))),
     ("checks of the book", "himm_step", |side, i, t| none(side.at(i).check_book(t))),
     ("edit, refresh and plan", "himm_plan", |side, i, t| side.edit_refresh_and_plan(i, t).into_iter().collect()),
-    ("step", "himm_step", |side, i, t| side.step(i, t).map_or(vec![], |(state, cost)| vec![state, cost])),
+    ("step", "himm_step", |side, i, t| side.step(i, t).map_or(vec![], |to| vec![to.state, to.cost])),
     ("exit", "himm_exit", |side, i, t| side.exit(i, t).into_iter().collect()),
-    ("choose", "himm_choose", |side, i, t| side.choose(i, t).map_or(vec![], |(which, used)| vec![which, used])),
+    ("choose, short lists", "himm_choose", |side, i, t| side.choose(i, t).map_or(vec![], |(which, used)| vec![which, used])),
+    ("choose, long lists", "himm_choose", |side, i, t| side.choose_long(i, t).map_or(vec![], |(which, used)| vec![which, used])),
     ("load of the whole book", "himm_load", |side, i, t| side.load(i, t)),
     ("load of an empty stream", "himm_load", |side, i, t| side.load_nothing(i, t)),
     ("one edit and refresh", "himm_load", |side, i, t| side.edit_and_refresh(i, t)),

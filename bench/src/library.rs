@@ -1,5 +1,6 @@
 //! A library opened by its file, so that two of them can be measured in one process; and its calls on slices.
 
+use himm_model::ABSENT;
 use std::ffi::{c_char, c_int, c_void, CString};
 use std::mem::{size_of, transmute_copy};
 
@@ -15,11 +16,12 @@ const NOW_AND_LOCAL: c_int = 2;
 const MOST_WORDS: usize = 8192;
 
 // The calls as in include/himm.h. Where a newer library's call has more out-parameters at its end, an older one is called with them too:
-// by the calling convention of x86-64 it leaves them alone.
+// by the calling convention of x86-64 it leaves them alone. So it is with himm_step before version 2, which has no word for the node: a
+// pointer to that word is the seventh argument, which the caller puts on the stack and takes off again; the older call never looks there.
 type Open = unsafe extern "C" fn(*mut u32, usize, *mut u32, usize) -> u32;
 type Load = unsafe extern "C" fn(*mut u32, usize, *mut u32, usize, *const u8, usize, *mut u64, *mut u64) -> u32;
 type Exit = unsafe extern "C" fn(*const u32, usize, *const u32, usize, u32, u32, *mut u32) -> u32;
-type Step = unsafe extern "C" fn(*const u32, usize, u32, u32, *mut u32, *mut u32) -> u32;
+type Step = unsafe extern "C" fn(*const u32, usize, u32, u32, *mut u32, *mut u32, *mut u32) -> u32;
 type Plan = unsafe extern "C" fn(*const u32, usize, *const u32, usize, u32, u32, *mut u8, usize, *mut u32, *mut u32) -> u32;
 type Write = unsafe extern "C" fn(*const u32, usize, *mut u8, usize, *mut u32) -> u32;
 type Choose = unsafe extern "C" fn(*const u32, usize, u32, u32, *const u8, usize, *const u8, usize, *mut u32, *mut u32) -> u32;
@@ -39,6 +41,14 @@ pub struct Library {
     merge: Option<Merge>,
     pub book_words: usize,
     pub sheet_words: usize,
+}
+
+/// What a step gives: a state, a cost, and the node whose transition was used, `None` from a library that does not name it.
+#[derive(Clone, Copy, Debug, PartialEq, Eq)]
+pub struct Moved {
+    pub state: u32,
+    pub cost: u32,
+    pub node: Option<u32>,
 }
 
 /// An opened file.
@@ -130,11 +140,12 @@ impl Library {
         answer(number, cost)
     }
 
-    /// The state that a command leads to, and its cost.
-    pub fn step(&self, book: &[u32], state: u32, command: u32) -> Result<(u32, u32), u32> {
-        let (call, mut next, mut cost) = (self.step.expect("himm_step"), 0, 0);
-        let number = unsafe { call(book.as_ptr(), book.len(), state, command, &mut next, &mut cost) };
-        answer(number, (next, cost))
+    /// The state that a command leads to, its cost and the node. The node's word holds no node's number before the call: a library that
+    /// leaves it so does not name the node.
+    pub fn step(&self, book: &[u32], state: u32, command: u32) -> Result<Moved, u32> {
+        let (call, mut next, mut cost, mut node) = (self.step.expect("himm_step"), 0, 0, ABSENT);
+        let number = unsafe { call(book.as_ptr(), book.len(), state, command, &mut next, &mut cost, &mut node) };
+        answer(number, Moved { state: next, cost, node: (node != ABSENT).then_some(node) })
     }
 
     /// The cost of a plan, whose commands go to the buffer.

@@ -1,11 +1,12 @@
 //! The rows of one kind of book in the first table, and its parts of a plan.
 
 use crate::holding::{tree_words, Holding};
-use crate::side::{Side, BOOKS, ROUNDS};
+use crate::library::Moved;
+use crate::side::{Choice, Side, BOOKS, ROUNDS};
 use crate::timing::{medians, print_row, rounds, timed, Times};
 use himm_model::flat::Flat;
 use himm_model::stream::Station;
-use himm_model::{book, merge, write};
+use himm_model::{book, choose, merge, write};
 
 /// How many answers were compared, and how many of them differed.
 #[derive(Default)]
@@ -49,6 +50,7 @@ pub fn all(name: &str, side: &Side, agreement: &mut Agreement) {
     loads(side, agreement);
     refreshes(side, agreement);
     writes(side, agreement);
+    choices(side, agreement);
 }
 
 /// The rows that are also measured with one book again and again.
@@ -94,11 +96,13 @@ fn set(words: &mut [u32], edit: &[u8]) -> Flat {
     Flat::of(words)
 }
 
-/// Steps against a flattening that is looked up once.
+/// Steps against a flattening that is looked up once. It has no acting nodes; those are the model's.
 fn steps(side: &Side, agreement: &mut Agreement) {
     let theirs = |i: usize, times: &mut _| {
         let (state, command) = side.places[i];
-        timed(times, || Flat::of(&side.at(i).book).step(state as usize, command as usize)).map(|(next, cost)| (next as u32, cost))
+        let found = timed(times, || Flat::of(&side.at(i).book).step(state as usize, command as usize));
+        let node = side.at(i).tree.step(state as usize, command as usize).map(|to| to.node as u32);
+        found.map(|(next, cost)| Moved { state: next as u32, cost, node })
     };
     rounds(ROUNDS, |i, t| side.step(i, t), theirs, |a, b| agreement.of(a, b)).print("step", "flatten and look up");
 }
@@ -131,6 +135,18 @@ fn refreshes(side: &Side, agreement: &mut Agreement) {
 fn writes(side: &Side, agreement: &mut Agreement) {
     let theirs = |i: usize, times: &mut _| timed(times, || write::stream(&book::decode(&side.at(i).book).expect("a book"))).len();
     rounds(ROUNDS / 4, |i, t| side.write(i, t), theirs, |a, b| agreement.of(a, b)).print("write", "the plain model's write");
+}
+
+/// Choosing between two long lists against the model's, which decodes the book first, within the clock, where ours checks it.
+fn choices(side: &Side, agreement: &mut Agreement) {
+    let theirs = |i: usize, times: &mut _| {
+        let Choice { pair: (from, to), lists: [first, second] } = side.long(i);
+        let decoded = || book::decode(&side.at(i).book).expect("a book");
+        let chosen = timed(times, || choose::choose(&decoded(), *from as usize, *to as usize, first, second));
+        chosen.map(|(which, used)| (which, used as u32))
+    };
+    let ours = |i: usize, times: &mut _| side.choose_long(i, times);
+    rounds(ROUNDS / 4, ours, theirs, |a, b| agreement.of(a, b)).print("choose, long lists", "the plain model's choose");
 }
 
 /// A merge of two books against writing and loading them both. The merged tree is the model's, and the loaded ones are those written.

@@ -1,11 +1,12 @@
 //! Books of one kind in one library, what each round needs of them, and the work of a round. The same seeds give the same work in every
 //! library.
 
-use crate::holding::{then_refresh, tree_words, Holding};
-use crate::library::Library;
+use crate::holding::{then_refresh, tree_words, Holding, PLAN_BYTES};
+use crate::library::{Library, Moved};
 use crate::timing::{timed, Times};
+use himm_model::flat::Flat;
 use himm_model::random::{Costs, Growth, Random, Shape};
-use himm_model::{COMMANDS, MACHINES, NODES, STREAM_BYTES};
+use himm_model::{COMMANDS, LIST_COMMANDS, MACHINES, NODES, STREAM_BYTES};
 
 /// How often each piece of work is timed.
 pub const ROUNDS: usize = 400;
@@ -13,11 +14,11 @@ pub const ROUNDS: usize = 400;
 /// How many books of a kind are taken in turn; there is one ladder.
 pub const BOOKS: usize = 32;
 
-/// How long the lists are that are chosen from.
+/// How long the short lists are that are chosen from.
 const LIST: usize = 64;
 
 /// Books, taken in turn round by round, so that no side meets the same book twice in a row where there is more than one; beside them the
-/// same with every machine stale, and a fresh one. Streams are by book, the other inputs by round.
+/// same with every machine stale, and a fresh one. Streams and long lists are by book, the other inputs by round.
 pub struct Side {
     pub books: Vec<Holding>,
     stale: Vec<Holding>,
@@ -27,6 +28,13 @@ pub struct Side {
     pub edits: Vec<Vec<u8>>,
     pub places: Vec<(u32, u32)>,
     lists: Vec<[Vec<u8>; 2]>,
+    long: Vec<Choice>,
+}
+
+/// Two long lists of commands from one state to another.
+pub struct Choice {
+    pub pair: (u32, u32),
+    pub lists: [Vec<u8>; 2],
 }
 
 /// The kinds of books that are measured.
@@ -58,6 +66,7 @@ impl Side {
             edits: (0..ROUNDS).map(|round| edits[round % edits.len()][round].clone()).collect(),
             places: (0..ROUNDS).map(|round| place(in_turn(round), round)).collect(),
             lists: (0..ROUNDS).map(|round| [2 * round, 2 * round + 1].map(list)).collect(),
+            long: books.iter().map(Choice::on).collect(),
             books,
         }
     }
@@ -99,8 +108,8 @@ impl Side {
         self.at(round).load_and_plan(&then_refresh(&self.edits[round]), self.pairs[round], times)
     }
 
-    /// The state that a command leads to, and its cost.
-    pub fn step(&self, round: usize, times: &mut Times) -> Option<(u32, u32)> {
+    /// The state that a command leads to, its cost and the node.
+    pub fn step(&self, round: usize, times: &mut Times) -> Option<Moved> {
         let (state, command) = self.places[round];
         timed(times, || self.library().step(&self.at(round).book, state, command)).ok()
     }
@@ -142,6 +151,17 @@ impl Side {
         timed(times, || self.library().choose(&self.at(round).book, self.pairs[round], first, second)).ok()
     }
 
+    /// The long lists of a round.
+    pub fn long(&self, round: usize) -> &Choice {
+        &self.long[round % self.long.len()]
+    }
+
+    /// The better of two long lists.
+    pub fn choose_long(&self, round: usize, times: &mut Times) -> Option<(u32, u32)> {
+        let Choice { pair, lists: [first, second] } = self.long(round);
+        timed(times, || self.library().choose(&self.at(round).book, *pair, first, second)).ok()
+    }
+
     /// Two books merged; the lists are filled outside the clock.
     pub fn merge(&self, round: usize, times: &mut Times) -> Vec<u32> {
         let [first, second] = self.two(round);
@@ -161,6 +181,38 @@ impl Side {
         });
         holdings.iter().flat_map(|holding| tree_words(&holding.book).to_vec()).collect()
     }
+}
+
+impl Choice {
+    /// Two lists between the first pair of states that has a way and is not one and the same state, each nearly as long as Choose looks at.
+    fn on(holding: &Holding) -> Choice {
+        let (flat, mut random) = (Flat::of(&holding.book), Random::new(6));
+        let fits = |&(from, to): &(u32, u32)| from != to && flat.search(from as usize, to as usize).is_some();
+        let pair = holding.pairs(ROUNDS).into_iter().find(fits).expect("a way");
+        let moves = moves_before(&flat, pair.1 as usize);
+        let lists = [0, 1].map(|_| long_list(&flat, &moves, pair, &mut random));
+        assert!(lists.iter().all(|list| list.len() + PLAN_BYTES >= LIST_COMMANDS), "a list that is cut short");
+        Choice { pair, lists }
+    }
+}
+
+/// For each state the commands that lead to a state other than the last one, with a way to it, and those states.
+fn moves_before(flat: &Flat, last: usize) -> Vec<Vec<(u8, usize)>> {
+    let fits: Vec<bool> = (0..NODES).map(|state| state != last && flat.search(state, last).is_some()).collect();
+    let on = |state: usize, x: usize| flat.step(state, x).filter(|&(next, _)| fits[next]).map(|(next, _)| (x as u8, next));
+    (0..NODES).map(|state| (0..COMMANDS).filter_map(|x| on(state, x)).collect()).collect()
+}
+
+/// A list that wanders by these moves, and at its end takes the cheapest way; it does so at once where no move is left.
+fn long_list(flat: &Flat, moves: &[Vec<(u8, usize)>], (from, to): (u32, u32), random: &mut Random) -> Vec<u8> {
+    let (mut list, mut state) = (vec![], from as usize);
+    while list.len() + PLAN_BYTES < LIST_COMMANDS && !moves[state].is_empty() {
+        let (command, next) = random.pick(&moves[state]);
+        list.push(command);
+        state = next;
+    }
+    list.extend(flat.search(state, to as usize).expect("a way").commands);
+    list
 }
 
 /// A state and a command at random.

@@ -3,7 +3,7 @@
 use crate::flat::Flat;
 use crate::sheet::{self, is_stale, Exits};
 use crate::stream::{Row, Station};
-use crate::tree::Tree;
+use crate::tree::{Moved, Tree};
 use crate::{book, choose, merge, write, BOOK_WORDS, COMMANDS, MACHINES, NODES, SHEET_WORDS};
 
 /// Refuses where the test does not hold.
@@ -54,10 +54,10 @@ fn two_states(tree: &Tree, from: u32, to: u32) -> Result<(usize, usize), u32> {
 }
 
 /// Step: refuses 6, 7, 14, 17.
-pub fn step(tree: &Tree, state: u32, command: u32) -> Result<(u32, u32), u32> {
+pub fn step(tree: &Tree, state: u32, command: u32) -> Result<Moved, u32> {
     ask(6, (state as usize) < NODES && (command as usize) < COMMANDS)?;
     let (s, _) = two_states(tree, state, state)?;
-    tree.step(s, command as usize).map(|(next, cost)| (next as u32, cost)).ok_or(17)
+    tree.step(s, command as usize).ok_or(17)
 }
 
 /// The cost of a plan over a true holding: refuses 13, 6, 7, 14, 15, 16.

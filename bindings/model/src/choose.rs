@@ -13,9 +13,9 @@ pub fn used(tree: &Tree, from: usize, to: usize, list: &[u8]) -> Option<(usize, 
         if byte as usize >= COMMANDS {
             return None;
         }
-        let (next, paid) = tree.step(state, byte as usize)?;
-        state = next;
-        cost += paid as u64;
+        let moved = tree.step(state, byte as usize)?;
+        state = moved.state;
+        cost += moved.cost as u64;
     }
     (state == to).then_some((list.len().min(LIST_COMMANDS), cost))
 }

@@ -52,7 +52,7 @@ pub fn exits(tree: &Tree, m: usize) -> Exits {
         for (x, exit) in exits.iter_mut().enumerate() {
             match tree.step_inside(m, s, x) {
                 None => *exit = least(*exit, so_far),
-                Some((t, cost)) => reach(&mut costs, &mut open, t, so_far + cost),
+                Some(to) => reach(&mut costs, &mut open, to.state, so_far + to.cost),
             }
         }
     }

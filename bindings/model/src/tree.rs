@@ -21,6 +21,14 @@ pub struct Machine {
     pub start: usize,
 }
 
+/// What a command does at a state: the state that it leads to, the cost, and the node whose transition it uses.
+#[derive(Clone, Copy, Debug, PartialEq, Eq)]
+pub struct Moved {
+    pub state: usize,
+    pub cost: u32,
+    pub node: usize,
+}
+
 /// Machines and nodes by their numbers; `None` where a number is not in use.
 #[derive(Clone, Debug, PartialEq, Eq)]
 pub struct Tree {
@@ -132,17 +140,18 @@ impl Tree {
         n
     }
 
-    /// What a command does at a state: the state that it leads to and its cost; `None` where the station stops.
-    pub fn step(&self, state: usize, command: usize) -> Option<(usize, u32)> {
+    /// What a command does at a state: the lowest node that has a transition for it acts, the state itself first and then the nodes that
+    /// hold it; `None` where the station stops.
+    pub fn step(&self, state: usize, command: usize) -> Option<Moved> {
         self.step_inside(self.root, state, command)
     }
 
     /// The same with the transitions of one machine and those below it alone.
-    pub fn step_inside(&self, top: usize, state: usize, command: usize) -> Option<(usize, u32)> {
+    pub fn step_inside(&self, top: usize, state: usize, command: usize) -> Option<Moved> {
         let mut n = state;
         loop {
             if let Some(t) = self.node(n).transitions[command] {
-                return Some((self.enter(t.target), t.cost));
+                return Some(Moved { state: self.enter(t.target), cost: t.cost, node: n });
             }
             if self.node(n).owner == top {
                 return None;

@@ -20,7 +20,7 @@ mod refusal;
 pub use refusal::Refusal;
 
 /// The version of `include/himm.h` that these calls are written for.
-pub const VERSION: u32 = 1;
+pub const VERSION: u32 = 2;
 
 /// Machines, nodes, commands and levels: each number is under its limit.
 pub const MACHINES: usize = 64;
@@ -50,11 +50,16 @@ pub struct Loaded {
     pub result: Result<(), Refusal>,
 }
 
-/// The state that a command leads to, and its cost.
+/// What a command did at a state.
 #[derive(Clone, Copy, Debug, PartialEq, Eq)]
-pub struct Arrival {
+pub struct Moved {
+    /// The state that it led to.
     pub state: u32,
+    /// The cost of the transition used.
     pub cost: u32,
+    /// The node whose transition was used: the state that the command was given at, if it has one for it, else the lowest node above it
+    /// that has. Its machine's level is the level that acted.
+    pub node: u32,
 }
 
 /// A cheapest list of commands, at the front of the lent buffer.
@@ -114,11 +119,11 @@ pub fn exit(book: &[u32], sheet: &[u32], machine: u32, command: u32) -> Result<u
     Refusal::check(number).map(|()| cost)
 }
 
-/// The state that a command leads to, and its cost.
-pub fn step(book: &[u32], state: u32, command: u32) -> Result<Arrival, Refusal> {
-    let (mut next, mut cost) = (0, 0);
-    let number = unsafe { raw::himm_step(book.as_ptr(), book.len(), state, command, &mut next, &mut cost) };
-    Refusal::check(number).map(|()| Arrival { state: next, cost })
+/// The state that a command leads to, its cost, and the node whose transition was used.
+pub fn step(book: &[u32], state: u32, command: u32) -> Result<Moved, Refusal> {
+    let (mut next, mut cost, mut node) = (0, 0, 0);
+    let number = unsafe { raw::himm_step(book.as_ptr(), book.len(), state, command, &mut next, &mut cost, &mut node) };
+    Refusal::check(number).map(|()| Moved { state: next, cost, node })
 }
 
 /// A cheapest list of commands from one state to another.

@@ -22,7 +22,7 @@ extern "C" {
         command: u32,
         cost: *mut u32,
     ) -> u32;
-    pub fn himm_step(book: *const u32, book_len: usize, state: u32, command: u32, next: *mut u32, cost: *mut u32) -> u32;
+    pub fn himm_step(book: *const u32, book_len: usize, state: u32, command: u32, next: *mut u32, cost: *mut u32, node: *mut u32) -> u32;
     pub fn himm_plan(
         book: *const u32,
         book_len: usize,

@@ -3,7 +3,7 @@
 mod common;
 
 use common::{hex, Holding, MAST};
-use himm::{Arrival, Refusal};
+use himm::{Moved, Refusal};
 
 fn mast(more: &str) -> Holding {
     Holding::loaded(&hex(&(MAST.to_string() + more)))
@@ -41,9 +41,31 @@ fn exit_costs() {
 #[test]
 fn steps() {
     let mast = mast("");
-    assert_eq!(himm::step(&mast.book, 11, 1), Ok(Arrival { state: 2, cost: 3 }));
+    assert_eq!(himm::step(&mast.book, 11, 1), Ok(Moved { state: 2, cost: 3, node: 1 }));
+    assert_eq!(himm::step(&mast.book, 10, 1), Ok(Moved { state: 10, cost: 1, node: 10 }));
     assert_eq!(himm::step(&mast.book, 11, 0), Err(Refusal::Stops));
     assert_eq!(himm::step(&mast.book, 1, 0), Err(Refusal::NotPlain));
+}
+
+/// Every step of a mast book that does not stop: state and command, then the state it leads to, its cost and the node that acts.
+fn moves(holding: &Holding) -> Vec<(u32, u32, u32, u32, u32)> {
+    let mut all = vec![];
+    for state in [0, 2, 10, 11] {
+        for command in 0..himm::COMMANDS as u32 {
+            if let Ok(to) = himm::step(&holding.book, state, command) {
+                all.push((state, command, to.state, to.cost, to.node));
+            }
+        }
+    }
+    all
+}
+
+/// Node 1 acts where neither 10 nor 11 has a transition of its own; 10's own for command 1 catches it until it is cleared.
+#[test]
+fn acting_nodes() {
+    let above = [(0, 0, 10, 5, 0), (0, 2, 2, 20, 0), (2, 0, 0, 7, 2)];
+    assert_eq!(moves(&mast("")), [&above[..], &[(10, 1, 10, 1, 10), (10, 2, 11, 4, 10), (11, 1, 2, 3, 1)]].concat());
+    assert_eq!(moves(&mast("15 000A 01")), [&above[..], &[(10, 1, 2, 3, 1), (10, 2, 11, 4, 10), (11, 1, 2, 3, 1)]].concat());
 }
 
 #[test]

@@ -4,7 +4,7 @@ mod common;
 
 use common::damage::{copy_a_field, hold, words};
 use common::{hex, Holding, MAST};
-use himm::{Arrival, Refusal};
+use himm::{Moved, Refusal};
 use himm_model::book::{decode, encode, machine_at, node_at};
 use himm_model::flat::Flat;
 use himm_model::merge::Numbers;
@@ -104,7 +104,7 @@ fn plans_of_two_masts() {
     let exits = |m| [0, 1, 2].map(|x| himm::exit(&third.book, &third.sheet, m, x));
     assert_eq!((exits(1), exits(3)), ([Ok(0), Ok(4), Ok(4)], [Ok(0), Ok(4), Ok(4)]));
     assert_eq!((exits(0), exits(2), exits(4)), ([Ok(5), Ok(0), Ok(9)], [Ok(5), Ok(0), Ok(9)], [Ok(5), Ok(0), Ok(9)]));
-    assert_eq!(himm::step(&third.book, 7, 1), Ok(Arrival { state: 5, cost: 3 }));
+    assert_eq!(himm::step(&third.book, 7, 1), Ok(Moved { state: 5, cost: 3, node: 4 }));
     assert_eq!((himm::step(&third.book, 7, 0), himm::step(&third.book, 8, 0)), (Err(Refusal::Stops), Err(Refusal::NotPlain)));
 }
 

@@ -73,10 +73,14 @@ fn store_mast(book: &mut Book) {
     book[327] = 1;
 }
 
-// Writes the state and the cost of a step, or the refusal.
+// Writes the state and the cost of a step and the node whose transition was used, or the refusal.
 fn show_step(text: &[u8], book: &Book, state: u32, command: u32) {
     match stepping::step(book, state, command) {
-        StepAnswer::Moved { state, cost } => pair(text, state, cost),
+        StepAnswer::Moved { state, cost, node } => {
+            io::write_all(STDOUT_FILENO, text);
+            io::print_decimal(STDOUT_FILENO, state as u64);
+            pair(b" ", cost, node);
+        }
         StepAnswer::Refused(k) => line(text, k),
     }
 }
@@ -155,7 +159,11 @@ fn step_short(book: &[u32], words: usize) {
         return;
     }
     match stepping::step(&book[..words], 0, 0) {
-        StepAnswer::Moved { state, cost } => pair(b"short book: ", state, cost),
+        StepAnswer::Moved {
+            state,
+            cost,
+            node: _,
+        } => pair(b"short book: ", state, cost),
         StepAnswer::Refused(k) => line(b"short book: ", k),
     }
 }
@@ -172,6 +180,7 @@ fn main() {
     store_mast(&mut book);
     let before = book;
     show_step(b"step 11 by 1: ", &book, 11, 1);
+    show_step(b"step 10 by 1: ", &book, 10, 1);
     show_step(b"step 11 by 0: ", &book, 11, 0);
     show_step(b"step 1 by 0: ", &book, 1, 0);
     show_step(b"step 255: ", &book, 255, 0);
@@ -203,5 +212,6 @@ fn main() {
     line(b"same book: ", same(&book, &before));
     line(b"open ladder: ", open_ladder(&mut book, &mut sheet));
     show_step(b"ladder 1 by 1: ", &book, 1, 1);
+    show_step(b"ladder 140 by 1: ", &book, 140, 1);
     show_step(b"ladder 0 by 1: ", &book, 0, 1);
 }

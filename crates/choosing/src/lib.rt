@@ -59,6 +59,7 @@ fn used_part(book: &[u32], a: u32, b: u32, list: &[u8]) -> Part
         let StepAnswer::Moved {
             state: next,
             cost: c,
+            node: _,
         } = stepping::step_from(book, s, x)
         else {
             return Part::Ends; // a stop

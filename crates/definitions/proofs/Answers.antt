@@ -1,5 +1,5 @@
 -- Refusals in their order: what an answer tells of them, and that the answer is one where document 01 leaves nothing free. Assumes nothing.
-use mathlib.Core.Path.{_≡_, refl, sym, ap, _∙_}
+use mathlib.Core.Path.{_≡_, refl, sym, ap, ap₂, _∙_}
 use mathlib.Core.Logic.{_⊎_, inl, inr, ⊎-elim}
 use mathlib.Core.Bool.{Bool, true, not, _&&_}
 use mathlib.Core.Option.{Option, none, some}
@@ -10,9 +10,9 @@ use lib.Dec.{eqb}
 use lib.ListN.{length, getD}
 use borrow.Author.Tests.{eqb-false, not-true}
 use Rattle.definitions.specs.Basics.{Least}
-use Rattle.definitions.specs.Limits.{commands, sheetLength}
+use Rattle.definitions.specs.Limits.{nodes, commands, sheetLength}
 use Rattle.definitions.specs.Tree.{Tree, UsedNode, states}
-use Rattle.definitions.specs.Step.{Arrival, step}
+use Rattle.definitions.specs.Step.{Arrival, step, acting}
 use Rattle.definitions.specs.Costs.{LeastCost}
 use Rattle.definitions.specs.Sheet.{Rows, rowsOf, encodeRows}
 use Rattle.definitions.specs.Book.{encode, treeOf, WellFormed}
@@ -71,12 +71,6 @@ in-order-done (refuse k met passed ∷ rs) nonzero never (inl (holds, said)) =
 in-order-done (refuse k met passed ∷ rs) nonzero never (inr (fails, rest)) =
     let (others, done) = in-order-done rs (and-true (not (eqb k 0)) (numbered rs) nonzero .1) never rest in
     ((fails, others), done)
-
--- where each refusal is passed the call is done
-pub in-order-passed : (rs : List Refusal) → Exclusive rs → (R : ℕ → Type 0) {D : Type 0} → Passed rs → InOrder rs R D → D
-in-order-passed [] apart R passed done = done
-in-order-passed (refuse k met passed ∷ rs) apart R all (inl (holds, said)) = absurd (apart .0 holds (all .0))
-in-order-passed (refuse k met passed ∷ rs) apart R all (inr (fails, rest)) = in-order-passed rs (apart .1) R (all .1) rest
 
 -- two outcomes on one input: both are refused with the same number, or both are done
 pub data Alike (R S : ℕ → Type 0) (D E : Type 0) : Type 0 where
@@ -141,36 +135,56 @@ module _ (book sheet : List ℕ) (w : WellFormed book) (s : TrueSheet (treeOf bo
       lent-on book sheet (planRefusals (treeOf book) (rowsOf sheet) a b (length buffer)) (Keeps answer buffer buffer′)
       (GivesPlan (treeOf book) a b buffer answer buffer′) w s
 
--- ---- Step at a state of a well-formed book
+-- ---- Step on a well-formed book
 
--- what is left of Step's answer there: 17, or what it gives
+-- what is left of Step's answer at a node in use, for a command: 14, 17, or what it gives; and at a state
+abbrev pub StepOn : Tree → ℕ → ℕ → Answer → Type 0
+StepOn t s x answer = InOrder (asks 14 (t .below s ≡ none) ∷ wants 17 (step t s x) ∷ []) (Refuses answer) (GivesStep t s x answer)
+
 abbrev pub StepDone : Tree → ℕ → ℕ → Answer → Type 0
 StepDone t s x answer = InOrder (wants 17 (step t s x) ∷ []) (Refuses answer) (GivesStep t s x answer)
 
--- on a well-formed book, at a state and for a command, Step says that and nothing else
-module _ (book : List ℕ) (w : WellFormed book) {s x : ℕ} (used : UsedNode (treeOf book) s) (plain : treeOf book .below s ≡ none) (range : x < commands)
-    {answer : Answer} where
-  pub done-says : StepDone (treeOf book) s x answer → StepSays book s x answer
-  done-says i = inr (w .length, inr (w, inr ((w .sound .node-range s (used .0) (used .1), range), inr (used, inr (plain, i)))))
+module _ (book : List ℕ) (w : WellFormed book) {s x : ℕ} (used : UsedNode (treeOf book) s) (range : x < commands) where
+  inside : (s < nodes) × (x < commands)
+  inside = (w .sound .node-range s (used .0) (used .1), range)
 
-  pub says-done : StepSays book s x answer → StepDone (treeOf book) s x answer
-  says-done (inl (wrong, e)) = absurd (wrong (w .length))
-  says-done (inr (long, inl (torn, e))) = absurd (torn w)
-  says-done (inr (long, inr (formed, inl (out, e)))) = absurd (out (w .sound .node-range s (used .0) (used .1), range))
-  says-done (inr (long, inr (formed, inr (inside, inl (unused, e))))) = absurd (none-some unused (used .1))
-  says-done (inr (long, inr (formed, inr (inside, inr (owned, inl (refined, e)))))) = absurd (refined plain)
-  says-done (inr (long, inr (formed, inr (inside, inr (owned, inr (state, i)))))) = i
+  pub step-past : {answer : Answer} → StepOn (treeOf book) s x answer → StepSays book s x answer
+  step-past i = inr (w .length, inr (w, inr (inside, inr (used, i))))
+
+  -- at a state Step says what is left and nothing else
+  module _ (plain : treeOf book .below s ≡ none) where
+    pub done-step : {answer : Answer} → StepDone (treeOf book) s x answer → StepSays book s x answer
+    done-step i = step-past (inr (plain, i))
+
+    pub step-done : {answer : Answer} → StepSays book s x answer → StepDone (treeOf book) s x answer
+    step-done (inl (wrong, e)) = absurd (wrong (w .length))
+    step-done (inr (long, inl (torn, e))) = absurd (torn w)
+    step-done (inr (long, inr (formed, inl (out, e)))) = absurd (out inside)
+    step-done (inr (long, inr (formed, inr (in-range, inl (unused, e))))) = absurd (none-some unused (used .1))
+    step-done (inr (long, inr (formed, inr (in-range, inr (owned, inl (refined, e)))))) = absurd (refined plain)
+    step-done (inr (long, inr (formed, inr (in-range, inr (owned, inr (state, i)))))) = i
 
 -- what it tells of the step
 module _ (t : Tree) (s x : ℕ) where
-  pub done-moved : {n c : ℕ} → StepDone t s x (gives (n ∷ c ∷ [])) → step t s x ≡ some (record { node = n; cost = c })
+  pub given-step : {e c n : ℕ} → GivesStep t s x (gives (e ∷ c ∷ n ∷ []))
+      → (step t s x ≡ some (record { node = e; cost = c })) × (acting t s x ≡ some n)
+  given-step (a, moved, by, acts, same) = (
+    moved ∙ sym (ap (λ (r : Answer). some (record { node = getD (r .values) 0 0; cost = getD (r .values) 1 0 })) same),
+    acts ∙ sym (ap (λ (r : Answer). some (getD (r .values) 2 0)) same),
+  )
+
+  pub done-moved : {e c n : ℕ} → StepDone t s x (gives (e ∷ c ∷ n ∷ [])) → step t s x ≡ some (record { node = e; cost = c })
   done-moved (inl (stop, e)) = absurd (given-refused refl e)
-  done-moved (inr (there, (a, moved, same))) =
-      moved ∙ sym (ap (λ (r : Answer). some (record { node = getD (r .values) 0 0; cost = getD (r .values) 1 0 })) same)
+  done-moved (inr (there, given)) = given-step given .0
 
   pub done-stopped : {k : ℕ} → StepDone t s x (refuses k) → step t s x ≡ none
   done-stopped (inl (stop, e)) = stop
-  done-stopped (inr (there, (a, moved, same))) = absurd (given-refused same refl)
+  done-stopped (inr (there, (a, moved, by, acts, same))) = absurd (given-refused same refl)
+
+-- an answer of Step that gives values gives a step, whatever the book
+pub step-given : (book : List ℕ) (s x : ℕ) {v : ℕ} {vs : List ℕ} → StepSays book s x (gives (v ∷ vs)) → GivesStep (treeOf book) s x (gives (v ∷ vs))
+step-given book s x {v} {vs} =
+    in-order-any (bookRefusals book (stepRefusals (treeOf book) s x)) {R = Refuses (gives (v ∷ vs))} (λ k e. absurd (given-refused refl e)) (λ given. given)
 
 -- ---- the calls' refusals exclude their other sides
 
@@ -267,7 +281,8 @@ step-one book s x {answer} {other} one two =
     (one-outcome (bookRefusals book rest) (book-exclusive book rest (step-exclusive (treeOf book) s x)) {R = Refuses answer} {S = Refuses other}
     one two)
     (λ i a b. a ∙ sym b)
-    (λ (c, moved, a) (d, too, b). a ∙ ap (λ (k : Arrival). gives (k .node ∷ k .cost ∷ [])) (some-same moved too) ∙ sym b)
+    (λ (c, moved, n, acts, a) (d, too, m, as-well, b).
+    a ∙ ap₂ (λ (k : Arrival) (j : ℕ). gives (k .node ∷ k .cost ∷ j ∷ [])) (some-same moved too) (some-same acts as-well) ∙ sym b)
 
 -- Plan's number, and the cost that it gives; which of the cheapest lists is given, and so how many commands, is free
 pub data SamePlan (answer other : Answer) : Type 0 where

@@ -103,7 +103,7 @@ found-by s x (ends o has at) i e = absurd (passed-found at e)
 found-by s x (leaves o other hold has at up) (own o′) e = absurd (other cc)
 found-by {t} s {top} x (leaves {h = h} {up = k} o other hold has at up) (deeper {h = g} o′ other′ hold′ inner) e =
     let same : g ≡ h = cc in
-    let (d, upper) = past-found _ k (sym at ∙ e) in
+    let (d, upper, sum) = past-found _ k (sym at ∙ e) in
     found-by s x up (subst (Inside t top) same inner) upper
 
 pub found-inside : {t : Tree} → Sound t → {top n u v c : ℕ} (x : ℕ) → Inside t top n → climb t top n x ≡ found u v c → Inside t top v

@@ -19,4 +19,5 @@ pub mod Opened
 pub mod Tests
 pub mod Mast
 pub mod Answers
+pub mod Acting
 pub mod Merges

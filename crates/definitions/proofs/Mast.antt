@@ -11,9 +11,9 @@ use lib.ListN.{getD}
 use Rattle.definitions.specs.Basics.{iterate, countBelow, anyBelow, All, Distinct}
 use Rattle.definitions.specs.Limits.{commands}
 use Rattle.definitions.specs.Tree.{Tree, Sound, states, above, pathF, path, level}
-use Rattle.definitions.specs.Step.{enterF, enter, counting, leaving, look, climb, stepIn, step, Moves, runBy, passes}
+use Rattle.definitions.specs.Step.{enterF, enter, counting, leaving, look, climb, stepIn, step, acting, Moves, runBy, passes}
 use Rattle.definitions.specs.Costs.{LeastCost, ExitCost}
-use Rattle.definitions.specs.Book.{under, encode}
+use Rattle.definitions.specs.Book.{under, encode, treeOf}
 use Rattle.definitions.specs.Sheet.{Rows, encodeRows}
 use Rattle.definitions.specs.Truth.{nodeExit, move}
 use Rattle.definitions.specs.Stream.{operandLength, decode, readNext}
@@ -21,7 +21,7 @@ use Rattle.definitions.specs.Edit.{firstHolding, refusals, refusal, sing
 use Rattle.definitions.specs.Load.{next, loadF, load, expected}
 use Rattle.definitions.specs.Open.{freshTree, fresh, openTree}
 use Rattle.definitions.specs.Answer.{gives, refuses}
-use Rattle.definitions.specs.Calls.{Plan, StepSays}
+use Rattle.definitions.specs.Calls.{Acts, Plan, StepSays}
 use Rattle.definitions.specs.Demand.{Bytes}
 use Rattle.definitions.specs.Mast.{mastStream, clearing, mastAfter, mastTree, RefusedWith16, MastExamples}
 use Rattle.definitions.proofs.Options.{none-some}
@@ -31,6 +31,7 @@ use Rattle.definitions.proofs.Tests.{allBelow, allUnder, listed, accoun
 use Rattle.definitions.proofs.Tests.{namedTest, chainTest, leftTest, endedTest, machineTest, reachedTest, nodeTest, rowsTest}
 use Rattle.definitions.proofs.Tests.{all-under, bound-least, bound-plan, bound-none, step-says}
 use Rattle.definitions.proofs.Tests.{tested-exit, tested-sheet, tested-refused}
+use Rattle.definitions.proofs.Acting.{step-acts}
 
 -- the stream that gives node 1 a transition to itself for command 2
 unfoldable pub looping : List ℕ
@@ -101,7 +102,7 @@ unfolding freshTree single withTransition edited mastAfter mastTree
 editing = freshTree
 
 stepping : Tree
-unfolding above pathF path enterF enter counting leaving look climb stepIn runBy passes countBelow states nodeExit move iterate
+unfolding above pathF path enterF enter counting leaving look climb stepIn acting runBy passes countBelow states nodeExit move iterate
 stepping = freshTree
 
 testing : Tree
@@ -165,20 +166,20 @@ unfolding computing
 exits-of-0 = (exit-of 0 0 0 5 refl (omega arith) refl, exit-of 0 0 1 0 refl (omega arith) refl, exit-of 0 0 2 9 refl (omega arith) refl)
 
 -- the steps
-step-11-by-1 : StepSays (encode mastTree) 11 1 (gives (2 ∷ 3 ∷ []))
+step-11-by-1 : StepSays (encode mastTree) 11 1 (gives (2 ∷ 3 ∷ 1 ∷ []))
 unfolding computing
 step-11-by-1 =
-    step-says mastTree sound 11 1 (gives (2 ∷ 3 ∷ [])) (omega arith) (omega arith) {p = 1} refl
-    (inr (refl, inr ((_, refl), (record { node = 2; cost = 3 }, refl, refl))))
+    step-says mastTree sound 11 1 (gives (2 ∷ 3 ∷ 1 ∷ [])) (omega arith) {p = 1} refl
+    (inr (refl, inr ((_, refl), (record { node = 2; cost = 3 }, refl, 1, refl, refl))))
 
 step-11-by-0 : StepSays (encode mastTree) 11 0 (refuses 17)
 unfolding computing
 step-11-by-0 =
-    step-says mastTree sound 11 0 (refuses 17) (omega arith) (omega arith) {p = 1} refl (inr (refl, inl (refl, refl)))
+    step-says mastTree sound 11 0 (refuses 17) (omega arith) {p = 1} refl (inr (refl, inl (refl, refl)))
 
 step-1 : (x : ℕ) → x < commands → StepSays (encode mastTree) 1 x (refuses 14)
 unfolding computing
-step-1 x range = step-says mastTree sound 1 x (refuses 14) (omega arith) range {p = 0} refl (inl (λ plain. none-some plain refl, refl))
+step-1 x range = step-says mastTree sound 1 x (refuses 14) range {p = 0} refl (inl (λ plain. none-some plain refl, refl))
 
 -- with transitions cleared
 cleared-10-1 : LeastCost (mastAfter (clearing 10 1 ∷ [])) 0 2 (some 8)
@@ -221,6 +222,16 @@ mast-examples =
       cleared-1-1 = cleared-1-1;
       cleared-both = cleared-both;
     }
+
+-- the claim of W-202 where node 1 acts at 11, and a step where the state itself acts, though node 1 above it has a transition for the command
+pub mast-acts : Acts (treeOf (encode mastTree)) 11 1 1 (record { node = 2; cost = 3 })
+mast-acts = step-acts (encode mastTree) 11 1 (record { node = 2; cost = 3 }) 1 step-11-by-1
+
+pub step-10-by-1 : StepSays (encode mastTree) 10 1 (gives (10 ∷ 1 ∷ 10 ∷ []))
+unfolding computing
+step-10-by-1 =
+    step-says mastTree sound 10 1 (gives (10 ∷ 1 ∷ 10 ∷ [])) (omega arith) {p = 1} refl
+    (inr (refl, inr ((_, refl), (record { node = 10; cost = 1 }, refl, 10, refl, refl))))
 
 -- With a transition of node 1 to itself for 2, a list that leaves machine 1 by 2 ends inside it, at state 10. The exit cost is the same.
 pub exit-with-loop : ExitCost (mastAfter (looping ∷ [])) 1 2 (some 4)

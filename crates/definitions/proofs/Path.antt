@@ -1,7 +1,6 @@
 -- The way up and the way down in a sound tree: how deep a machine is, the path from a node to the root, entering a node, and the
 -- climb. Fuel for eight levels is enough; after the laws of this file nobody looks at it. Assumes nothing.
-use mathlib.Core.Path.{_≡_, refl, sym, _∙_, ap, subst, subst₂}
-use mathlib.Core.Logic.{_⊎_, inl, inr, ⊎-elim}
+use mathlib.Core.Path.{_≡_, refl, sym, _∙_, ap, subst}
 use mathlib.Core.Bool.{Bool, true, false, cond}
 use mathlib.Core.Option.{Option, none, some}
 use mathlib.Core.List.{List, [], _∷_}
@@ -12,7 +11,7 @@ use native.Mathlib.Nat.{not-suc-le-zero, le-of-suc-le-suc}
 use Rattle.definitions.specs.Basics.{isAt, iterate}
 use Rattle.definitions.specs.Limits.{levels, commands}
 use Rattle.definitions.specs.Tree.{Tree, Transition, Sound, parent, above, pathF, path, level}
-use Rattle.definitions.specs.Step.{enterF, enter, counting, leaving, leavingOf, Climb, found, passed, past, firstOf, look, climb}
+use Rattle.definitions.specs.Step.{enterF, enter, counting, leaving, leavingOf, Climb, found, passed, past, firstOf, look, climb, Lowest}
 use Rattle.definitions.proofs.Options.{bind-some, some-same, isAt-some, isAt-other}
 
 -- machine m is k machines below the root
@@ -235,9 +234,9 @@ leaving-free t m = refl
 pub passed-found : {k : Climb} {l u v c : ℕ} → k ≡ passed l → k ≡ found u v c → ⊥
 passed-found p q = let z : _≡_ {A = ℕ} 0 1 = cc in omega arith
 
--- what is found past a machine was found
-pub past-found : (l : ℕ) (k : Climb) {u v c : ℕ} → past l k ≡ found u v c → (d : ℕ) × (k ≡ found u v d)
-past-found l (found u v d) e = (d, cc)
+-- what is found past a machine was found, for what is left of the cost
+pub past-found : (l : ℕ) (k : Climb) {u v c : ℕ} → past l k ≡ found u v c → (d : ℕ) × (k ≡ found u v d) × (l + d ≡ c)
+past-found l (found u v d) e = (d, cc, cc)
 past-found l (passed d) e = absurd (passed-found refl e)
 
 -- what is found is the transition of a node, for a command, and its target belongs to the node's machine
@@ -252,26 +251,78 @@ found-own {t} s x w a has =
     let (m, ew, ev) = s .transition-owned w x a (counting-is t w x a has) in
     record { range = counting-range s w x a has; machine = m; node-owner = ew; target-owner = ev }
 
-look-first : {t : Tree} → Sound t → (x w : ℕ) (o : Option Transition) → counting t w x ≡ o → (k : Climb) {u v c : ℕ} → firstOf w o k ≡ found u v c
-    → (Found t x u v) ⊎ (k ≡ found u v c)
-look-first {t} s x w none has k e = inr e
-look-first {t} s x w (some a) has k {u} {v} e =
-    let eu : w ≡ u = cc in
-    let ev : a .target ≡ v = cc in
-    inl (subst₂ (λ (i j : ℕ). Found t x i j) eu ev (found-own s x w a has))
+-- what leaving the machines of these nodes costs
+abbrev pub leavingAll : Tree → List ℕ → ℕ
+leavingAll t [] = 0
+leavingAll t (n ∷ ns) = leavingOf t n + leavingAll t ns
 
-look-further : (b : Bool) (l : ℕ) (k : Climb) {u v c : ℕ} → cond b (passed 0) (past l k) ≡ found u v c → (d : ℕ) × (k ≡ found u v d)
-look-further true l k e = absurd (passed-found refl e)
-look-further false l k e = past-found l k e
+-- On a way up a transition for x is found: that of the lowest node which has one. Its target is v, and c its cost with that of leaving the
+-- machines of the nodes below.
+pub record FoundOn (t : Tree) (x : ℕ) (way : List ℕ) (u v c : ℕ) : Type 0 where
+  pub lowest : Lowest t x way u
+  pub leads : lowest .transition .target ≡ v
+  pub costs : leavingAll t (lowest .lower) + lowest .transition .cost ≡ c
 
-look-found : {t : Tree} → Sound t → (top x : ℕ) (ns : List ℕ) {u v : ℕ} (c : ℕ) → look t top x ns ≡ found u v c → Found t x u v
+module _ (t : Tree) (x w : ℕ) (ns : List ℕ) {u v c : ℕ} where
+  -- at the first node
+  found-here : (a : Transition) → counting t w x ≡ some a → found w (a .target) (a .cost) ≡ found u v c → FoundOn t x (w ∷ ns) u v c
+  found-here a has e =
+      let at : w ≡ u = cc in
+      let cost : a .cost ≡ c = cc in
+      record {
+        lowest =
+            record {
+              lower = [];
+              upper = ns;
+              on-the-way = ap (λ (n : ℕ). n ∷ ns) at;
+              lower-none = tt;
+              transition = a;
+              counts = subst (λ (n : ℕ). counting t n x ≡ some a) at has;
+            };
+        leads = cc;
+        costs = omega arith;
+      }
+
+  -- past it
+  found-further : counting t w x ≡ none → (b : Bool) (k : Climb) → ((d : ℕ) → k ≡ found u v d → FoundOn t x ns u v d)
+      → cond b (passed 0) (past (leavingOf t w) k) ≡ found u v c → FoundOn t x (w ∷ ns) u v c
+  found-further has true k up e = absurd (passed-found refl e)
+  found-further has false k up e =
+      let (d, at, sum) = past-found (leavingOf t w) k e in
+      let f = up d at in
+      let l = f .lowest in
+      record {
+        lowest =
+            record {
+              lower = w ∷ l .lower;
+              upper = l .upper;
+              on-the-way = ap (λ (way : List ℕ). w ∷ way) (l .on-the-way);
+              lower-none = (has, l .lower-none);
+              transition = l .transition;
+              counts = l .counts;
+            };
+        leads = f .leads;
+        costs = omega (arith, sum, f .costs);
+      }
+
+  -- wherever it is
+  found-from : (o : Option Transition) → counting t w x ≡ o → (b : Bool) (k : Climb) → ((d : ℕ) → k ≡ found u v d → FoundOn t x ns u v d)
+      → firstOf w o (cond b (passed 0) (past (leavingOf t w) k)) ≡ found u v c → FoundOn t x (w ∷ ns) u v c
+  found-from none has b k up e = found-further has b k up e
+  found-from (some a) has b k up e = found-here a has e
+
+look-found : (t : Tree) (top x : ℕ) (ns : List ℕ) {u v : ℕ} (c : ℕ) → look t top x ns ≡ found u v c → FoundOn t x ns u v c
 unfolding look
-look-found s top x [] c e = absurd (passed-found refl e)
-look-found {t} s top x (w ∷ ns) c e =
-    ⊎-elim (λ f. f)
-    (λ f. let (d, g) = look-further (isAt (t .owner w) top) (leavingOf t w) (look t top x ns) f in look-found s top x ns d g)
-    (look-first s x w (counting t w x) refl (cond (isAt (t .owner w) top) (passed 0) (past (leavingOf t w) (look t top x ns))) e)
+look-found t top x [] c e = absurd (passed-found refl e)
+look-found t top x (w ∷ ns) c e =
+    found-from t x w ns (counting t w x) refl (isAt (t .owner w) top) (look t top x ns) (λ d f. look-found t top x ns d f) e
+
+-- what a climb finds, it finds on the node's path
+pub climb-on-path : (t : Tree) (top n x : ℕ) {u v c : ℕ} → climb t top n x ≡ found u v c → FoundOn t x (path t n) u v c
+unfolding climb
+climb-on-path t top n x {c = c} e = look-found t top x (path t n) c e
 
 pub climb-found : {t : Tree} → Sound t → (top n x : ℕ) {u v c : ℕ} → climb t top n x ≡ found u v c → Found t x u v
-unfolding climb
-climb-found {t} s top n x {c = c} e = look-found s top x (path t n) c e
+climb-found {t} s top n x {u = u} e =
+    let f = climb-on-path t top n x e in
+    subst (λ (w : ℕ). Found t x u w) (f .leads) (found-own s x u (f .lowest .transition) (f .lowest .counts))

@@ -171,7 +171,7 @@ pub counting-cost : {t : Tree} → Sound t → (n x : ℕ) (a : Transition) → 
 counting-cost {t} s n x a e = omega (arith, s .transition-range n x a (counting-is t n x a e) .1)
 
 -- leaving a node's machine costs nothing
-leaving-of : (t : Tree) (n : ℕ) → leavingOf t n ≡ 0
+pub leaving-of : (t : Tree) (n : ℕ) → leavingOf t n ≡ 0
 leaving-of t n = go (t .owner n)
   where
     go : (o : Option ℕ) → option 0 (leaving t) o ≡ 0

@@ -19,8 +19,8 @@ use Rattle.definitions.specs.Costs.{LeastCost, ExitCost}
 use Rattle.definitions.specs.Book.{under, encode}
 use Rattle.definitions.specs.Sheet.{Rows, encodeRows}
 use Rattle.definitions.specs.Truth.{nodeExit, move, BlankMachine, BlankNode, BlankRule, Named, Ended, TrueRows, TrueSheet}
-use Rattle.definitions.specs.Answer.{Answer, refuses, asks, wants, InOrder}
-use Rattle.definitions.specs.Calls.{GivesStep, StepSays, Plan, PlanSays}
+use Rattle.definitions.specs.Answer.{Answer, refuses}
+use Rattle.definitions.specs.Calls.{StepSays, Plan, PlanSays}
 use Rattle.definitions.proofs.Options.{bind-some, none-some, some-same, true-false, decided, equal-or-not, and-true}
 use Rattle.definitions.proofs.Options.{isAt-true, isSome-true, isSome-false}
 use Rattle.definitions.proofs.Lists.{no-value}
@@ -28,6 +28,7 @@ use Rattle.definitions.proofs.Path.{enter-enters, enters-state, countin
 use Rattle.definitions.proofs.Runs.{Bounded, bounded-run}
 use Rattle.definitions.proofs.Local.{Relaxed, Attained, move-parts}
 use Rattle.definitions.proofs.LocalTruth.{local-true}
+use Rattle.definitions.proofs.Answers.{StepOn, step-past}
 use Rattle.definitions.proofs.Simple.{step-stepped}
 use Rattle.definitions.proofs.Words.{under-some, encode-length, treeOf-encode, encode-well-formed}
 use Rattle.definitions.proofs.Words.{encodeRows-length, InRange, words-marks, rowsOf-encodeRows}
@@ -168,17 +169,12 @@ rows-sheet t r range holds =
     let (long, marks) = words-marks (encodeRows r) (ap encodeRows same) in
     record { length = long; marks = marks; rows = rw same holds }
 
--- what is left of Step's answer for a node and a command in range, the node in use
-abbrev pub StepOn : Tree → ℕ → ℕ → Answer → Type 0
-StepOn t n x answer =
-    InOrder (asks 14 (t .below n ≡ none) ∷ wants 17 (step t n x) ∷ []) (λ k. answer ≡ refuses k) (GivesStep t n x answer)
-
--- it is Step's answer on the book of a sound tree
-pub step-says : (t : Tree) → Sound t → (n x : ℕ) (answer : Answer) → n < nodes → x < commands → {p : ℕ} → t .owner n ≡ some p
-    → StepOn t n x answer → StepSays (encode t) n x answer
-step-says t s n x answer small range own rest =
-    rw (treeOf-encode t s)
-    (inr (encode-length t, inr (encode-well-formed t s, inr ((small, range), inr ((_, own), rest)))))
+-- Step's answer on the book of a sound tree
+pub step-says : (t : Tree) → Sound t → (n x : ℕ) (answer : Answer) → x < commands → {p : ℕ} → t .owner n ≡ some p → StepOn t n x answer
+    → StepSays (encode t) n x answer
+step-says t s n x answer range own rest =
+    let same = treeOf-encode t s in
+    step-past (encode t) (encode-well-formed t s) (rw same (_, own)) range (rw same rest)
 
 -- a state is a node in use that holds no machine
 pub state-parts : (t : Tree) (n : ℕ) → isState t n ≡ true → (p : ℕ) × (t .owner n ≡ some p) × (t .below n ≡ none)

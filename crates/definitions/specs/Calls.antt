@@ -1,4 +1,5 @@
--- Document 01, "Opening", "Loading a stream" and "Exit, step and plan": what each call answers and leaves, on every input.
+-- Document 01, "Opening", "Loading a stream" and "Exit, step and plan": what each call answers and leaves, on every input. The third value of
+-- Step and the claim about it are of document 02 (W-202).
 use mathlib.Core.Path.{_≡_}
 use mathlib.Core.Logic.{_⊎_}
 use mathlib.Core.Bool.{true, false}
@@ -8,8 +9,8 @@ use Prim.Native.Nat.{ℕ, _-_, _<_}
 use lib.ListN.{length, drop}
 use Rattle.definitions.specs.Basics.{Distinct}
 use Rattle.definitions.specs.Limits.{machines, nodes, commands, bookLength, sheetLength}
-use Rattle.definitions.specs.Tree.{Tree, UsedNode, states}
-use Rattle.definitions.specs.Step.{Arrival, step, Moves, passes}
+use Rattle.definitions.specs.Tree.{Tree, UsedNode, path, states}
+use Rattle.definitions.specs.Step.{enter, Arrival, step, acting, Lowest, Moves, passes}
 use Rattle.definitions.specs.Costs.{LeastCost, ExitCost}
 use Rattle.definitions.specs.Book.{encode, treeOf, WellFormed}
 use Rattle.definitions.specs.Sheet.{Rows, rowsOf, encodeRows}
@@ -74,18 +75,32 @@ ExitSays book sheet m x answer =
     (λ k. answer ≡ refuses k)
     ((c : ℕ) × ExitCost (treeOf book) m x (some c) × (answer ≡ gives (c ∷ [])))
 
--- Step: the state and the cost. It refuses also 6, 7, 14 (node not plain), 17 (the station stops)
+-- Step: the state, the cost and the acting node. It refuses also 6, 7, 14 (node not plain), 17 (the station stops)
 abbrev pub stepRefusals : Tree → ℕ → ℕ → List Refusal
 stepRefusals t s x =
     asks 6 ((s < nodes) × (x < commands)) ∷ wants 7 (t .owner s) ∷ asks 14 (t .below s ≡ none) ∷ wants 17 (step t s x) ∷ []
 
--- a step is given: the state and the cost
+-- a step is given: the state and the cost, and the node whose transition was used (document 02, W-202)
 abbrev pub GivesStep : Tree → ℕ → ℕ → Answer → Type 0
-GivesStep t s x answer = (a : Arrival) × (step t s x ≡ some a) × (answer ≡ gives (a .node ∷ a .cost ∷ []))
+GivesStep t s x answer =
+    (a : Arrival) × (step t s x ≡ some a) × (n : ℕ) × (acting t s x ≡ some n) × (answer ≡ gives (a .node ∷ a .cost ∷ n ∷ []))
 
 abbrev pub StepSays : List ℕ → ℕ → ℕ → Answer → Type 0
 StepSays book s x answer =
     InOrder (bookRefusals book (stepRefusals (treeOf book) s x)) (λ k. answer ≡ refuses k) (GivesStep (treeOf book) s x answer)
+
+-- Node n acts for command x at state s, and a is where that leads and what it costs.
+pub record Acts (t : Tree) (s x n : ℕ) (a : Arrival) : Type 0 where
+  -- it is the state or holds it, has a transition for x that counts, and no node below it on the way up has one
+  pub lowest : Lowest t x (path t s) n
+  -- the target, entered, is the state of a, and the cost is that of a
+  pub enters : enter t (lowest .transition .target) ≡ some (a .node)
+  pub costs : lowest .transition .cost ≡ a .cost
+
+-- the claim of W-202: the node that Step gives acts, for every book, state and command
+abbrev pub StepActs : Type 0
+StepActs =
+    (book : List ℕ) (s x : ℕ) (a : Arrival) (n : ℕ) → StepSays book s x (gives (a .node ∷ a .cost ∷ n ∷ [])) → Acts (treeOf book) s x n a
 
 -- a cheapest list from a to b: it moves the station there, passes no state twice, and no list that does costs less
 pub record Plan (t : Tree) (a b cost : ℕ) (list : List ℕ) : Type 0 where

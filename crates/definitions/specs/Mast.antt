@@ -1,4 +1,4 @@
--- Document 01, "The mast book": the starred examples, as one statement about the definitions.
+-- Document 01, "The mast book": the starred examples, as one statement about the definitions. (The acting node is document 02's, W-202.)
 use mathlib.Core.Path.{_≡_}
 use mathlib.Core.Option.{some}
 use mathlib.Core.List.{List, [], _∷_}
@@ -55,7 +55,7 @@ pub record MastExamples : Type 0 where
   pub from-0-to-0 : Plan mastTree 0 0 0 []
   pub exits-of-1 : ExitCost mastTree 1 0 (some 0) × ExitCost mastTree 1 1 (some 4) × ExitCost mastTree 1 2 (some 4)
   pub exits-of-0 : ExitCost mastTree 0 0 (some 5) × ExitCost mastTree 0 1 (some 0) × ExitCost mastTree 0 2 (some 9)
-  pub step-11-by-1 : StepSays (encode mastTree) 11 1 (gives (2 ∷ 3 ∷ []))
+  pub step-11-by-1 : StepSays (encode mastTree) 11 1 (gives (2 ∷ 3 ∷ 1 ∷ []))
   pub step-11-by-0 : StepSays (encode mastTree) 11 0 (refuses 17)
   pub step-1 : (x : ℕ) → x < commands → StepSays (encode mastTree) 1 x (refuses 14)
   pub cleared-10-1 : LeastCost (mastAfter (clearing 10 1 ∷ [])) 0 2 (some 8)

@@ -1,11 +1,11 @@
 -- Document 01, "The tree and its step": entering a node, the step and its cost, and what a list of commands does.
--- (Definition 3 of sources 000 and 001, as document 01 fixes it.)
+-- (Definition 3 of sources 000 and 001, as document 01 fixes it.) Also the node that acts (document 02, W-202).
 use mathlib.Core.Path.{_≡_}
 use mathlib.Core.Bool.{cond}
 use mathlib.Core.Option.{Option, none, some}
-use mathlib.Core.List.{List, [], _∷_}
+use mathlib.Core.List.{List, [], _∷_, _++_}
 use Prim.Native.Nat.{ℕ, zero, suc, _+_}
-use Rattle.definitions.specs.Basics.{_>>=_, option, isAt}
+use Rattle.definitions.specs.Basics.{_>>=_, option, isAt, All}
 use Rattle.definitions.specs.Limits.{levels}
 use Rattle.definitions.specs.Tree.{Tree, Transition, path}
 
@@ -81,6 +81,25 @@ stepIn t top s x = follow t (climb t top s x)
 -- what a command does at a state (document 01: the step and its charge); none where the station stops
 abbrev pub step : Tree → ℕ → ℕ → Option Arrival
 step t = stepIn t (t .root)
+
+-- the node where a climb found a transition; none where it found none
+abbrev pub foundAt : Climb → Option ℕ
+foundAt (found n v c) = some n
+foundAt (passed c) = none
+
+-- the acting node: the one whose transition a command uses at a state (document 02, W-202: the node whose arrow was used); none where
+-- the station stops
+unfoldable pub acting : Tree → ℕ → ℕ → Option ℕ
+acting t s x = foundAt (climb t (t .root) s x)
+
+-- node n is the lowest of a way up that has a transition for x which counts
+pub record Lowest (t : Tree) (x : ℕ) (way : List ℕ) (n : ℕ) : Type 0 where
+  pub lower : List ℕ
+  pub upper : List ℕ
+  pub on-the-way : way ≡ lower ++ n ∷ upper
+  pub lower-none : All (λ d. counting t d x ≡ none) lower
+  pub transition : Transition
+  pub counts : counting t n x ≡ some transition
 
 -- where a list of commands leads and what it costs, with transitions in machine top or below it
 abbrev pub runIn : Tree → ℕ → ℕ → List ℕ → Option Arrival

@@ -14,19 +14,20 @@ use Rattle.definitions.specs.Choose.{Choice, first, second, ChoiceSays}
 abbrev pub outOf : Answer → ℕ → ℕ → ℕ
 outOf answer i old = getD (answer .values) i old
 
--- Exit, Step, Plan and Write: the returned number and the words, by the answer that document 01 gives
+-- Exit, Step, Plan and Write: the returned number and the words, by the answer that document 01 gives (Step's node: document 02, W-202)
 pub record ExitReturns (book sheet : List ℕ) (m x cost number cost′ : ℕ) : Type 0 where
   pub answer : Answer
   pub says : ExitSays book sheet m x answer
   pub returned : number ≡ answer .number
   pub cost-word : cost′ ≡ outOf answer 0 cost
 
-pub record StepReturns (book : List ℕ) (s x next cost number next′ cost′ : ℕ) : Type 0 where
+pub record StepReturns (book : List ℕ) (s x next cost node number next′ cost′ node′ : ℕ) : Type 0 where
   pub answer : Answer
   pub says : StepSays book s x answer
   pub returned : number ≡ answer .number
   pub next-word : next′ ≡ outOf answer 0 next
   pub cost-word : cost′ ≡ outOf answer 1 cost
+  pub node-word : node′ ≡ outOf answer 2 node
 
 pub record PlanReturns (book sheet : List ℕ) (a b : ℕ) (buffer : List ℕ) (cost count number : ℕ) (buffer′ : List ℕ) (cost′ count′ : ℕ) : Type 0 where
   pub answer : Answer

@@ -78,7 +78,7 @@ pub extern "C" fn himm_exit(
     }
 }
 
-// Step: the state that a command leads to, and its cost. Refuses 1, 2, 6, 7, 14, 17.
+// Step: the state that a command leads to, its cost, and the node whose transition was used. Refuses 1, 2, 6, 7, 14, 17.
 #[no_mangle]
 pub extern "C" fn himm_step(
     book: &[u32],
@@ -86,14 +86,20 @@ pub extern "C" fn himm_step(
     command: u32,
     next: &mut u32,
     cost: &mut u32,
+    node: &mut u32,
 ) -> u32
-    ensures { λ r. ⌜ StepReturns (now (book .entry)) state command (now (next .entry)) (now (cost .entry)) r
-        (now (next .exit)) (now (cost .exit)) ⌝ }
+    ensures { λ r. ⌜ StepReturns (now (book .entry)) state command (now (next .entry)) (now (cost .entry)) (now (node .entry)) r
+        (now (next .exit)) (now (cost .exit)) (now (node .exit)) ⌝ }
 {
     match stepping::step(book, state, command) {
-        StepAnswer::Moved { state, cost: c } => {
+        StepAnswer::Moved {
+            state,
+            cost: c,
+            node: n,
+        } => {
             *next = state;
             *cost = c;
+            *node = n;
             0
         }
         StepAnswer::Refused(k) => k,

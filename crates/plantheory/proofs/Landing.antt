@@ -206,7 +206,7 @@ found-opened s op (ends o has at) own-n yes-open e = absurd (passed-found at e)
 found-opened {t} s op {m = m} (leaves {m = p} {h = h} {up = k} o other hold has at up) own-n yes-open e =
     let same : m ≡ p = cc in
     let (g, own-h) = s .holder-used p h hold in
-    let (d, upper) = past-found _ k (sym at ∙ e) in
+    let (d, upper, sum) = past-found _ k (sym at ∙ e) in
     let above-m : parent t m ≡ some g =
     subst (λ (i : ℕ). parent t i ≡ some g) (sym same) (parent-below s own-h (s .held-below p h hold)) in
     found-opened s op up own-h (op .upward m g above-m yes-open) upper

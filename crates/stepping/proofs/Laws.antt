@@ -7,7 +7,7 @@ use native.Mathlib.Omega.{arith}
 use lib.ListN.{length}
 use Rattle.definitions.specs.Limits.{machines, nodes, levels, absent}
 use Rattle.definitions.specs.Tree.{Tree, UsedNode, Sound, level}
-use Rattle.definitions.specs.Step.{found, passed, climb, enter, follow, stepIn, step}
+use Rattle.definitions.specs.Step.{found, passed, climb, enter, follow, stepIn, step, foundAt, acting}
 use Rattle.definitions.specs.Book.{word, treeOf, WellFormed}
 use Rattle.definitions.proofs.Path.{Deep, at-root, under, deep, path-root, climb-found, enter-plain, enter-down, level-on, level-bound}
 use Rattle.definitions.proofs.Words.{present-word, owner-range, below-range, no-holder, no-below}
@@ -86,15 +86,19 @@ module _ (ws : List ℕ) (w : WellFormed ws) (n : ℕ) (used : UsedNode (treeOf 
 
 -- ---- the step, from what the climb finds
 
-module _ (t : Tree) (s : Sound t) (n x : ℕ) where
+module _ (t : Tree) (n x : ℕ) where
   -- the target of what is found is in use
-  pub target-used : {u v c : ℕ} → found u v c ≡ climb t (t .root) n x → UsedNode t v
-  target-used e = let at = climb-found s (t .root) n x (sym e) in (at .machine, at .target-owner)
+  pub target-used : Sound t → {u v c : ℕ} → found u v c ≡ climb t (t .root) n x → UsedNode t v
+  target-used s e = let at = climb-found s (t .root) n x (sym e) in (at .machine, at .target-owner)
 
-  pub step-found : {u v c e : ℕ} → found u v c ≡ climb t (t .root) n x → enter t v ≡ some e → some (record { node = e; cost = c }) ≡ step t n x
+  pub step-found : {u v c e : ℕ} → found u v c ≡ climb t (t .root) n x → enter t v ≡ some e → step t n x ≡ some (record { node = e; cost = c })
   unfolding stepIn
-  step-found {c = c} up en = sym (ap (follow t) (sym up) ∙ rw en)
+  step-found up en = ap (follow t) (sym up) ∙ rw en
 
-  pub step-passed : {l : ℕ} → passed l ≡ climb t (t .root) n x → none ≡ step t n x
+  pub acting-found : {u v c : ℕ} → found u v c ≡ climb t (t .root) n x → acting t n x ≡ some u
+  unfolding acting
+  acting-found up = ap foundAt (sym up)
+
+  pub step-passed : {l : ℕ} → passed l ≡ climb t (t .root) n x → step t n x ≡ none
   unfolding stepIn
-  step-passed up = sym (ap (follow t) (sym up))
+  step-passed up = ap (follow t) (sym up)

@@ -1,18 +1,16 @@
 -- Step's answer, refusal by refusal: what each way out of the call has to show. Assumes nothing.
-use mathlib.Core.Path.{_≡_, refl, sym}
+use mathlib.Core.Path.{_≡_, refl}
 use mathlib.Core.Logic.{inl, inr}
-use mathlib.Core.Option.{none, some}
-use mathlib.Core.List.{List, [], _∷_}
+use mathlib.Core.List.{List}
 use Prim.Native.Nat.{ℕ, _<_}
 use lib.ListN.{length}
 use Rattle.definitions.specs.Limits.{nodes, commands, bookLength, absent}
 use Rattle.definitions.specs.Tree.{UsedNode}
-use Rattle.definitions.specs.Step.{step}
 use Rattle.definitions.specs.Book.{word, treeOf, WellFormed}
-use Rattle.definitions.specs.Answer.{gives, refuses}
+use Rattle.definitions.specs.Answer.{refuses}
 use Rattle.definitions.specs.Calls.{StepSays}
 use Rattle.definitions.proofs.Options.{none-some}
-use Rattle.definitions.proofs.Words.{present-word, no-owner, no-below}
+use Rattle.definitions.proofs.Words.{present-word, no-owner}
 
 module _ (book : List ℕ) (s x : ℕ) where
   pub says-length : (length book ≡ bookLength → ⊥) → StepSays book s x (refuses 1)
@@ -40,7 +38,3 @@ module _ (book : List ℕ) (s x : ℕ) where
               w .length,
               inr (w, inr (range, inr (is-used, inl (λ plain. none-some plain (present-word (treeOf book .below s) f held), refl)))),
             )
-
-        -- and a state where it is not refined
-        pub is-plain : {b : ℕ} → b ≡ word (treeOf book .below s) → b ≡ absent → treeOf book .below s ≡ none
-        is-plain f plain = no-below (treeOf book) (w .sound) s f plain

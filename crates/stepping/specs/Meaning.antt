@@ -11,11 +11,12 @@ use Rattle.stepping.specs.declared.StepAnswer.the-variants as StepAnswer
 use Rattle.stepping.specs.declared.Climbed.{Climbed}
 use Rattle.stepping.specs.declared.Climbed.the-variants.{Found, Passed}
 
--- what Step's answer says by document 01's number and values
+-- what Step's answer says by document 01's number and values; the third value is document 02's (W-202)
 abbrev pub answerOf : StepAnswer → Answer
-answerOf (StepAnswer.Moved s c) = gives (s ∷ c ∷ [])
+answerOf (StepAnswer.Moved s c n) = gives (s ∷ c ∷ n ∷ [])
 answerOf (StepAnswer.Refused k) = refuses k
 
+-- what a climb up to the root found; leaving costs nothing, so where it found none it passed at cost 0
 abbrev pub climbOf : Climbed → Climb
 climbOf (Found n v c) = found n v c
 climbOf Passed = passed 0

@@ -15,9 +15,9 @@ pub enum Climbed {
     Passed,
 }
 
-// Step's answer: the state and the cost, or a refusal's number.
+// Step's answer: the state, the cost and the node whose transition was used, or a refusal's number.
 pub enum StepAnswer {
-    Moved { state: u32, cost: u32 },
+    Moved { state: u32, cost: u32, node: u32 },
     Refused(u32),
 }
 
@@ -76,19 +76,17 @@ pub fn level(book: &[u32], n: u32) -> u32
     }
 }
 
-// Step at a state of a book that is known to be well formed, where 17 alone is left to refuse. Step ends in it, and Choose is made of it.
+// Step at a state of a book that is known to be well formed, where 17 alone is left to refuse. Step ends in it, and Choose calls it for
+// each command.
 pub fn step_from(book: &[u32], s: u32, x: u32) -> StepAnswer
     requires { ⌜ WellFormed (now book) × UsedNode (treeOf (now book)) s × (treeOf (now book) .below s ≡ none) × (x < commands) ⌝ }
     ensures { λ r. ⌜ StepSays (now (book .entry)) s x (answerOf r) ⌝ }
 {
     match climb(book, s, x) {
-        Climbed::Found {
-            node: _,
-            target,
-            cost,
-        } => StepAnswer::Moved {
+        Climbed::Found { node, target, cost } => StepAnswer::Moved {
             state: enter(book, target),
             cost,
+            node,
         },
         Climbed::Passed => StepAnswer::Refused(17),
     }
@@ -120,8 +118,8 @@ pub fn judge_states(book: &[u32], a: u32, b: u32) -> u32
     0
 }
 
-// Step: the state that a command leads to from a state, and its cost. It reads only the book. It refuses 1 (a wrong length),
-// 2 (book not well formed), 6 (number out of range), 7 (node not in use), 14 (node not plain), 17 (the station stops).
+// Step: the state that a command leads to from a state, its cost, and the node whose transition was used. It reads only the book. It refuses
+// 1 (a wrong length), 2 (book not well formed), 6 (number out of range), 7 (node not in use), 14 (node not plain), 17 (the station stops).
 pub fn step(book: &[u32], state: u32, command: u32) -> StepAnswer
     ensures { λ r. ⌜ StepSays (now (book .entry)) state command (answerOf r) ⌝ }
 {

@@ -7,11 +7,13 @@ use himm::raw;
 use himm_model::flat::Flat;
 use himm_model::sheet::{is_stale, is_true, machine_row, node_row, Exits};
 use himm_model::stream::{Loaded, Row, Station};
-use himm_model::tree::Tree;
+use himm_model::tree::{Moved, Tree};
 use himm_model::{book, calls, random, sheet, COMMANDS, MACHINES, NODES};
 
 /// What an out-parameter holds before a call.
 const UNTOUCHED: u32 = 0xdead_beef;
+/// The same for Step's state, cost and node: three different words, so that a refused step that copies one to another shows.
+pub const UNTOUCHED_STEP: [u32; 3] = [UNTOUCHED, UNTOUCHED + 1, UNTOUCHED + 2];
 /// What a buffer holds before a call.
 const FILLER: u8 = 0xa5;
 
@@ -167,10 +169,15 @@ impl Holding {
 
     pub fn compare_step(&self, view: &View, state: u32, command: u32) {
         let expected = view.book.as_ref().map_err(|&k| k).and_then(|t| calls::step(t, state, command));
-        let (mut next, mut cost) = (UNTOUCHED, UNTOUCHED);
-        let number = unsafe { raw::himm_step(self.book.as_ptr(), self.book.len(), state, command, &mut next, &mut cost) };
-        let expected = expected.map_or_else(|k| (k, UNTOUCHED, UNTOUCHED), |(n, c)| (0, n, c));
-        assert_eq!((number, next, cost), expected, "step {state} {command}");
+        let words = |to: Moved| (0, [to.state as u32, to.cost, to.node as u32]);
+        assert_eq!(self.step(state, command), expected.map_or_else(|k| (k, UNTOUCHED_STEP), words), "step {state} {command}");
+    }
+
+    /// What Step returns, and what it leaves in the words for state, cost and node.
+    pub fn step(&self, state: u32, command: u32) -> (u32, [u32; 3]) {
+        let [mut next, mut cost, mut node] = UNTOUCHED_STEP;
+        let number = unsafe { raw::himm_step(self.book.as_ptr(), self.book.len(), state, command, &mut next, &mut cost, &mut node) };
+        (number, [next, cost, node])
     }
 
     /// Plans between all pairs of some nodes.
@@ -261,10 +268,10 @@ fn walk(tree: &Tree, from: usize, to: usize, least: u32, plan: &[u8], count: usi
     let mut passed = vec![from];
     let mut sum = 0;
     for &command in &plan[..count] {
-        let (next, cost) = tree.step(passed[passed.len() - 1], command as usize).expect("no stop");
-        assert!(!passed.contains(&next), "a state passed twice");
-        passed.push(next);
-        sum += cost;
+        let moved = tree.step(passed[passed.len() - 1], command as usize).expect("no stop");
+        assert!(!passed.contains(&moved.state), "a state passed twice");
+        passed.push(moved.state);
+        sum += moved.cost;
     }
     assert_eq!((passed[count], sum), (to, least), "a list that costs or leads otherwise");
 }

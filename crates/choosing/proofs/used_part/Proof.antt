@@ -9,7 +9,7 @@ use denote.Ref.{now}
 use Rattle.definitions.specs.Limits.{largestCost, longestList}
 use Rattle.definitions.specs.Book.{treeOf}
 use Rattle.definitions.specs.Calls.{StepSays}
-use Rattle.definitions.proofs.Answers.{StepDone, says-done, done-moved, done-stopped}
+use Rattle.definitions.proofs.Answers.{StepDone, step-done, done-moved, done-stopped}
 use Rattle.stepping.specs.Meaning.{answerOf}
 use Rattle.stepping.specs.declared.StepAnswer.{StepAnswer}
 use Rattle.choosing.proofs.Laws.{Upto, upto-none, upto-arrives, upto-ends, upto-over, upto-stops, upto-moves, upto-fits}
@@ -68,7 +68,7 @@ done c r same =
     let k = c .before in
     let l = k .before .before .before .before in
     let e = l .before .before .before .before in
-    says-done (now (e .args .book)) (e .pre .0) (l .loop .inv .1 .used) (l .loop .inv .1 .plain) (k .if2 .left)
+    step-done (now (e .args .book)) (e .pre .0) (l .loop .inv .1 .used) (k .if2 .left) (l .loop .inv .1 .plain)
     (subst (λ (z : StepAnswer). StepSays (now (e .args .book)) (l .loop .s) (k .before .command-at .result) (answerOf z)) same (c .step-from .ensures))
 
 returns-3 : tie.Need-returns-3 Inv-loop μ-loop

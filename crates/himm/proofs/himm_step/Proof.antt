@@ -25,11 +25,12 @@ returns c =
     let k = n .before .before in
     let a = k .before .before .args in
     record {
-      answer = gives (n .state .given .0 .0 ∷ n .state .given .0 .1 .0 ∷ []);
+      answer = gives (n .state .given .0 .0 ∷ n .state .given .0 .1 .0 ∷ n .state .given .0 .1 .1 .0 ∷ []);
       says = subst (λ (r : StepAnswer). StepSays (now (a .book)) (a .state) (a .command) (answerOf r)) (n .state .given .1) (k .step .ensures);
       returned = refl;
       next-word = refl;
       cost-word = refl;
+      node-word = refl;
     }
 
 returns-2 : tie.Need-returns-2
@@ -43,6 +44,7 @@ returns-2 c =
       returned = refl;
       next-word = refl;
       cost-word = refl;
+      node-word = refl;
     }
 
 pub himm-step-spec : {M : Type 1} → statement M

@@ -2,9 +2,10 @@
 use native.Mathlib.Omega.{arith}
 use borrow.Author.Needs.{needs}
 use denote.Ref.{now}
-use Rattle.definitions.specs.Book.{WellFormed}
+use Rattle.definitions.specs.Book.{treeOf, WellFormed}
+use Rattle.definitions.proofs.Words.{no-below}
 use Rattle.book.proofs.Decide.{passed, refused}
-use Rattle.stepping.proofs.Says.{says-length, says-torn, says-range, says-unused, says-refined, is-used, is-plain}
+use Rattle.stepping.proofs.Says.{says-length, says-torn, says-range, says-unused, says-refined, is-used}
 use Rattle.stepping.proofs.step.Statement.{statement}
 use Rattle.stepping.proofs.step.Tie as tie
 
@@ -63,12 +64,10 @@ step-from-requires c κs =
     let u = c .before .before in
     let o = u .before in
     let f = o .before .before .before in
-    let e = f .before .before .before .before in
-    let in-use = is-used (now (e .args .book)) (e .args .state) (e .args .command) (formed f) (o .before .before .if3 .left, o .before .if4 .left) (o .owner .ensures) (u .if5 .left) in (
+    let e = f .before .before .before .before in (
       formed f,
-      in-use,
-      is-plain (now (e .args .book)) (e .args .state) (e .args .command) (formed f) (o .before .before .if3 .left, o .before .if4 .left) (o .owner .ensures) (u .if5 .left)
-          (c .before .below .ensures) (c .if6 .left),
+      is-used (now (e .args .book)) (e .args .state) (e .args .command) (formed f) (o .before .before .if3 .left, o .before .if4 .left) (o .owner .ensures) (u .if5 .left),
+      no-below (treeOf (now (e .args .book))) (formed f .sound) (e .args .state) (c .before .below .ensures) (c .if6 .left),
       o .before .if4 .left,
     )
 
