@@ -7,7 +7,8 @@ use mathlib.Core.List.{List, [], _∷_}
 use Prim.Native.Nat.{ℕ, suc, _-_, _≤_, _<_}
 use native.Mathlib.Omega.{arith}
 use lib.Dec.{eqb}
-use lib.ListN.{length, getD}
+use lib.ListN.{length, getD, take, drop}
+use lib.Seq.{take-at}
 use borrow.Author.Tests.{eqb-false, not-true}
 use Rattle.definitions.specs.Basics.{Least}
 use Rattle.definitions.specs.Limits.{nodes, commands, sheetLength}
@@ -22,7 +23,7 @@ use Rattle.definitions.specs.Answer.{Answer, gives, refuses, Refusal, re
 use Rattle.definitions.specs.Calls.{RightLengths, bookRefusals, sheetRefusals, stateRefusals, exitRefusals, stepRefusals, planRefusals}
 use Rattle.definitions.specs.Calls.{OpenSays, LoadAnswer, LoadDone, LoadSays, ExitSays, GivesStep, StepSays, GivesPlan, PlanSays}
 use Rattle.definitions.specs.Choose.{Choice, first, cheaperOf, partOf, placeOf, ChoiceSays, ChooseSays}
-use Rattle.definitions.specs.Write.{written, WriteSays}
+use Rattle.definitions.specs.Write.{written, GivesBytes, WriteSays}
 use Rattle.definitions.specs.Open.{openRows}
 use Rattle.definitions.specs.Merge.{mergeRefusals, MergeSays}
 use Rattle.definitions.proofs.Options.{none-some, some-same, true-false, and-true}
@@ -32,6 +33,18 @@ pub given-refused : {v k : ℕ} {vs : List ℕ} {answer : Answer} → answer ≡
 given-refused {vs = vs} p q =
     let z : suc (length vs) ≡ 0 = ap (λ (a : Answer). length (a .values)) (sym p ∙ q) in
     omega arith
+
+-- an answer says what it gives
+gives-same : {a b : ℕ} → gives (a ∷ []) ≡ gives (b ∷ []) → a ≡ b
+gives-same e = ap (λ (a : Answer). getD (a .values) 0 0) e
+
+-- bytes that are given stand at the front of the output, so many as are told
+pub bytes-given : (bytes out out′ : List ℕ) (size : ℕ) → GivesBytes bytes out (gives (size ∷ [])) out′
+    → (size ≡ length bytes) × (take size out′ ≡ bytes)
+bytes-given bytes out out′ size (inl (short, e)) = absurd (given-refused refl (e .0))
+bytes-given bytes out out′ size (inr (room, (told, stand))) =
+    let same : size ≡ length bytes = gives-same told in
+    (same, rw stand (take-at bytes (drop (length bytes) out) size (sym same)))
 
 -- ---- any refusals
 
@@ -302,14 +315,21 @@ plan-one book sheet a b buffer {answer} {other} {buffer′} {buffer″} one two 
     same-cost c (length xs) (length ys) p
     (q ∙ ap (λ (k : ℕ). gives (k ∷ length ys ∷ [])) (least-same (too .least) (plan .least))))
 
+-- an answer that gives bytes, and the output
+bytes-one : (xs ys out : List ℕ) {answer other : Answer} {out′ out″ : List ℕ} → xs ≡ ys → GivesBytes xs out answer out′ → GivesBytes ys out other out″
+    → (answer ≡ other) × (out′ ≡ out″)
+bytes-one xs ys out {answer} {other} {out′} {out″} same one two =
+    both-ways
+    (one-outcome (asksRoom 15 (length ys) (length out) ∷ []) (apart-room, tt) {R = Keeps answer out out′} {S = Keeps other out out″} (rw same at one) two)
+    (λ i (a, b) (c, d). (a ∙ sym c, b ∙ sym d)) (λ (a, b) (c, d). (a ∙ sym c, b ∙ sym d))
+
 -- Write's answer and output
 pub write-one : (book out : List ℕ) {answer other : Answer} {out′ out″ : List ℕ} → WriteSays book out answer out′ → WriteSays book out other out″
     → (answer ≡ other) × (out′ ≡ out″)
 write-one book out {answer} {other} {out′} {out″} one two =
-    let rest = asksRoom 15 (length (written (treeOf book))) (length out) ∷ [] in
     both-ways
-    (one-outcome (bookRefusals book rest) (book-exclusive book rest (apart-room, tt)) {R = Keeps answer out out′} {S = Keeps other out out″} one two)
-    (λ i (a, b) (c, d). (a ∙ sym c, b ∙ sym d)) (λ (a, b) (c, d). (a ∙ sym c, b ∙ sym d))
+    (one-outcome (bookRefusals book []) (book-exclusive book [] tt) {R = Keeps answer out out′} {S = Keeps other out out″} one two)
+    (λ i (a, b) (c, d). (a ∙ sym c, b ∙ sym d)) (bytes-one (written (treeOf book)) (written (treeOf book)) out refl)
 
 -- Choose's choice and number, and so the part, its place and the word
 pub choice-one : (book : List ℕ) (a b : ℕ) (one two : List ℕ) {choice other : Choice} {k j : ℕ} → ChoiceSays book a b one two choice k

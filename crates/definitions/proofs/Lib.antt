@@ -14,6 +14,7 @@ pub mod Simple
 pub mod Commands
 pub mod Worked
 pub mod Streams
+pub mod Spelling
 pub mod Kept
 pub mod Opened
 pub mod Tests

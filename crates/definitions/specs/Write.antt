@@ -31,9 +31,13 @@ unfoldable pub writtenRefine : Tree → ℕ → ℕ → List ℕ
 writtenRefine t l n =
     option [] (λ m. option [] (λ s. cond (eqb (level t n) l) (0x12 ∷ (pair n ++ m ∷ pair s)) []) (t .start m)) (t .below n)
 
+-- the bytes of arrow
+abbrev pub arrowBytes : (node command target cost : ℕ) → List ℕ
+arrowBytes n x v c = 0x14 ∷ (pair n ++ x ∷ (pair v ++ pair c))
+
 -- arrow, for node n and command x where there is one
 unfoldable pub writtenArrow : Tree → ℕ → ℕ → List ℕ
-writtenArrow t n x = option [] (λ a. 0x14 ∷ (pair n ++ x ∷ (pair (a .target) ++ pair (a .cost)))) (t .transition n x)
+writtenArrow t n x = option [] (λ a. arrowBytes n x (a .target) (a .cost)) (t .transition n x)
 
 -- the whole stream: begin; for each level first add, then refine, both by rising node; last all arrows by node, then command
 unfoldable pub written : Tree → List ℕ
@@ -42,11 +46,16 @@ written t =
     ++ (joined levels (λ l. joined nodes (writtenAdd t (suc l)) ++ joined nodes (writtenRefine t (suc l)))
     ++ joined nodes (λ n. joined commands (writtenArrow t n)))
 
--- Write: the length, and the stream at the front of the output, the rest untouched. It refuses 1, 2, 15 (output shorter than the
--- stream), writing nothing
+-- bytes are given: their length, and the bytes at the front of the output, the rest untouched; 15 where the output is shorter, writing nothing
+abbrev pub GivesBytes : List ℕ → List ℕ → Answer → List ℕ → Type 0
+GivesBytes bytes out answer out′ =
+    InOrder (asksRoom 15 (length bytes) (length out) ∷ [])
+    (λ k. (answer ≡ refuses k) × (out′ ≡ out))
+    ((answer ≡ gives (length bytes ∷ [])) × (out′ ≡ bytes ++ drop (length bytes) out))
+
+-- Write gives the stream. It refuses 1, 2 and 15, writing nothing
 abbrev pub WriteSays : List ℕ → List ℕ → Answer → List ℕ → Type 0
 WriteSays book out answer out′ =
-    InOrder (bookRefusals book (asksRoom 15 (length (written (treeOf book))) (length out) ∷ []))
+    InOrder (bookRefusals book [])
     (λ k. (answer ≡ refuses k) × (out′ ≡ out))
-    ((answer ≡ gives (length (written (treeOf book)) ∷ []))
-    × (out′ ≡ written (treeOf book) ++ drop (length (written (treeOf book))) out))
+    (GivesBytes (written (treeOf book)) out answer out′)

@@ -5,14 +5,13 @@ use mathlib.Core.Logic.{_⊎_, inl, inr, ⊎-elim}
 use mathlib.Core.Bool.{Bool, true, false, cond, _&&_}
 use mathlib.Core.Option.{none, some}
 use Prim.Native.Nat.{ℕ, zero, suc, _≤_, _<_}
-use native.Mathlib.Decide.{decLe}
-use native.Mathlib.Nat.{not-suc-le-zero, lt-of-not-le}
+use native.Mathlib.Nat.{not-suc-le-zero}
 use native.Mathlib.Omega.{arith}
 use lib.Dec.{eqb}
 use borrow.Author.Tests.{eq-eqb, ne-eqb}
 use Rattle.definitions.specs.Basics.{countBelow}
 use Rattle.definitions.specs.Merge.{ranked, moved, Renumbering, rising}
-use Rattle.definitions.proofs.Options.{none-some, some-same, true-false, decided, equal-or-not}
+use Rattle.definitions.proofs.Options.{none-some, some-same, true-false, decided, equal-or-not, less-or-not}
 use Rattle.definitions.proofs.Lists.{no-value}
 use Rattle.definitions.proofs.Simple.{count-same}
 
@@ -126,9 +125,6 @@ pub none-on : (limit : ℕ) (p : ℕ → Bool) (j : ℕ) → ranked limit p j �
 none-on limit p j e =
     ⊎-elim (λ less. absurd (none-some e (ranked-exists limit p j less .1))) (λ past. ranked-none limit p (suc j) (omega (arith, past)))
     (less-or-not j (countBelow limit p))
-  where
-    less-or-not : (a b : ℕ) → (a < b) ⊎ (b ≤ a)
-    less-or-not a b = elim (decLe b a) [ yes from ↦ inr from | no before ↦ inl (lt-of-not-le before) ]
 
 -- ---- numbers that move
 

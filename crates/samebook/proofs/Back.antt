@@ -16,8 +16,8 @@ use Rattle.definitions.specs.Open.{openRows}
 use Rattle.definitions.specs.Write.{pair, writtenAdd, writtenRefine, writtenArrow, written}
 use Rattle.definitions.proofs.Words.{start-range}
 use Rattle.definitions.proofs.Commands.{begin-taken, add-taken, refine-taken, arrow-taken}
-use Rattle.samebook.proofs.Reading.{spells-begin, spells-add, spells-refine, spells-arrow}
-use Rattle.samebook.proofs.Taken.{Step, load-step, whole, Takes, done, takes-one, takes-both, takes-load, takes-rows}
+use Rattle.definitions.proofs.Spelling.{spells-begin, spells-add, spells-refine, spells-arrow, whole, TakenAs, load-step}
+use Rattle.samebook.proofs.Taken.{Takes, done, takes-one, takes-both, takes-load, takes-rows}
 use Rattle.samebook.proofs.Clock.{addAt, refineAt, arrowAt, afterBegin}
 use Rattle.samebook.proofs.Grown.{grown, grown-begin, grown-end, add-none, add-may, add-done}
 use Rattle.samebook.proofs.Grown.{refine-none, refine-may, refine-done, arrow-none, arrow-may, arrow-done}
@@ -99,7 +99,7 @@ begun : {t : Tree} → Sound t → (u : Tree) {f : ℕ} → t .start (t .root) �
 unfolding edited
 begun {t} s u {f} first {cs} way =
     let (machine, node) = start-range t s (t .root) f first in
-    let step : Step u (begin (t .root) f) (0x10 ∷ t .root ∷ pair f) = record {
+    let step : TakenAs u (begin (t .root) f) (0x10 ∷ t .root ∷ pair f) = record {
       spells = spells-begin (t .root) f;
       taken = begin-taken u (record { machine-range = machine; node-range = node });
     } in

@@ -1,4 +1,3 @@
-pub mod Reading
 pub mod Taken
 pub mod Levels
 pub mod Clock

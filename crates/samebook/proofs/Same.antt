@@ -3,34 +3,29 @@
 use mathlib.Core.Path.{_≡_, refl, sym, ap, _∙_}
 use mathlib.Core.List.{List, [], _∷_}
 use Prim.Native.Nat.{ℕ}
-use lib.ListN.{length, getD, take, drop}
-use lib.Seq.{take-at}
+use lib.ListN.{length, take}
 use Rattle.definitions.specs.Tree.{Tree}
 use Rattle.definitions.specs.Sheet.{Rows, rowsOf, encodeRows}
 use Rattle.definitions.specs.Book.{treeOf, WellFormed, encode}
 use Rattle.definitions.specs.Load.{load}
 use Rattle.definitions.specs.Open.{openRows}
-use Rattle.definitions.specs.Answer.{Answer, gives, refuses, asksRoom}
+use Rattle.definitions.specs.Answer.{gives, refuses}
 use Rattle.definitions.specs.Calls.{bookRefusals, LoadAnswer, LoadDone}
 use Rattle.definitions.specs.Write.{written, WriteSays}
 use Rattle.definitions.specs.Demand.{SameBook}
-use Rattle.definitions.proofs.Answers.{given-refused, in-order-done, load-done}
+use Rattle.definitions.proofs.Answers.{given-refused, bytes-given, in-order-done, load-done}
 use Rattle.definitions.proofs.Words.{well-formed-words}
 use Rattle.samebook.proofs.Back.{WrittenBack, written-back}
-
--- an answer says what it gives
-gives-same : {a b : ℕ} → gives (a ∷ []) ≡ gives (b ∷ []) → a ≡ b
-gives-same e = ap (λ (a : Answer). getD (a .values) 0 0) e
 
 -- what Write's answer says
 pub wrote : (book out out′ : List ℕ) (size : ℕ) → WriteSays book out (gives (size ∷ [])) out′
     → WellFormed book × (size ≡ length (written (treeOf book))) × (take size out′ ≡ written (treeOf book))
 wrote book out out′ size says =
-    let (passed, done) =
-    in-order-done (bookRefusals book (asksRoom 15 (length (written (treeOf book))) (length out) ∷ [])) refl
-    {R = λ k. (gives (size ∷ []) ≡ refuses k) × (out′ ≡ out)} (λ k other refused. given-refused refl (refused .0)) says in
-    let same : size ≡ length (written (treeOf book)) = gives-same (done .0) in
-    (passed .1 .0, same, rw (done .1) (take-at (written (treeOf book)) (drop (length (written (treeOf book))) out) size (sym same)))
+    let (passed, given) =
+    in-order-done (bookRefusals book []) refl {R = λ k. (gives (size ∷ []) ≡ refuses k) × (out′ ≡ out)}
+    (λ k other refused. given-refused refl (refused .0)) says in
+    let (counted, stream) = bytes-given (written (treeOf book)) out out′ size given in
+    (passed .1 .0, counted, stream)
 
 -- the clause, where the book that is written is known to be well formed
 back : (u : Tree) {r : Rows} {book book′ sheet′ : List ℕ} {answer : LoadAnswer} → WellFormed book

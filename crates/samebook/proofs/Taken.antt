@@ -4,31 +4,14 @@ use mathlib.Core.Path.{_≡_, ap, subst, _∙_}
 use mathlib.Core.List.{List, [], _∷_, _++_, append-assoc, append-nil}
 use Prim.Native.Nat.{ℕ}
 use lib.ListN.{length, length-append}
-use lib.Seq.{drop-append-seam}
 use Rattle.definitions.specs.Tree.{Tree}
 use Rattle.definitions.specs.Sheet.{Rows}
 use Rattle.definitions.specs.Stream.{Edit, Command, edit}
-use Rattle.definitions.specs.Edit.{refusal, edited, editedRows}
-use Rattle.definitions.specs.Load.{Outcome, after, load, RowsAfterAll}
+use Rattle.definitions.specs.Edit.{edited, editedRows}
+use Rattle.definitions.specs.Load.{after, load, RowsAfterAll}
 use Rattle.definitions.specs.Open.{openRows}
-use Rattle.definitions.proofs.Streams.{next-nothing, next-takes, load-end, load-taken}
-use Rattle.samebook.proofs.Reading.{Spells}
-
--- a command that is taken on tree t, and its bytes
-pub record Step (t : Tree) (e : Edit) (bytes : List ℕ) : Type 0 where
-  pub spells : Spells (edit e) bytes
-  pub taken : refusal t (edit e) ≡ 0
-
--- one command is done, and the rest of the stream is left
-pub load-step : {t : Tree} {e : Edit} {bytes : List ℕ} → Step t e bytes → (rest : List ℕ)
-    → load t (bytes ++ rest) ≡ after (edit e) (length bytes) (load (edited t e) rest)
-load-step {t} {e} {bytes} s rest =
-    load-taken t (bytes ++ rest) (next-takes t (bytes ++ rest) (s .spells rest) (s .taken))
-    ∙ rw (drop-append-seam bytes rest)
-
--- what becomes of a stream that is taken whole
-abbrev pub whole : List ℕ → List Command → Tree → Outcome
-whole bytes cs u = record { bytes = length bytes; commands = cs; number = 0; tree = u }
+use Rattle.definitions.proofs.Streams.{next-nothing, load-end}
+use Rattle.definitions.proofs.Spelling.{whole, TakenAs, load-step}
 
 -- from rows as an opening has them an edit leaves such rows
 abbrev pub StaysOpen : Tree → Edit → Type 0
@@ -37,11 +20,11 @@ StaysOpen t e = editedRows t e (openRows t) ≡ openRows (edited t e)
 -- the bytes are commands that are taken one after the other, from tree t to tree u; rows stay as an opening has them
 pub data Takes : Tree → List ℕ → List Command → Tree → Type 0 where
   done : {t : Tree} → Takes t [] [] t
-  then : {t u : Tree} {e : Edit} {bytes rest : List ℕ} {cs : List Command} → Step t e bytes → StaysOpen t e
+  then : {t u : Tree} {e : Edit} {bytes rest : List ℕ} {cs : List Command} → TakenAs t e bytes → StaysOpen t e
       → Takes (edited t e) rest cs u → Takes t (bytes ++ rest) (edit e ∷ cs) u
 
 -- one command
-pub takes-one : {t u : Tree} {e : Edit} {bytes : List ℕ} → Step t e bytes → StaysOpen t e → edited t e ≡ u
+pub takes-one : {t u : Tree} {e : Edit} {bytes : List ℕ} → TakenAs t e bytes → StaysOpen t e → edited t e ≡ u
     → Takes t bytes (edit e ∷ []) u
 takes-one {t} {u} {e} {bytes} s o same = rw append-nil at (subst (Takes t (bytes ++ []) (edit e ∷ [])) same (then s o done))
 

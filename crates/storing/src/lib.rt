@@ -2,7 +2,8 @@
 // is measured and not written.
 ghost use mathlib.Core.List.{[], _∷_};
 ghost use Prim.Native.Nat.{_+_, _<_, _^_};
-ghost use Rattle.definitions.specs.Write.{pair};
+ghost use Rattle.definitions.specs.Limits.{nodes, commands};
+ghost use Rattle.definitions.specs.Write.{pair, arrowBytes};
 ghost use Rattle.storing.specs.Stored.{Stored};
 
 // Stores a byte at a place, if the list goes so far; the next place.
@@ -24,4 +25,16 @@ pub fn put_pair(out: &mut [u8], at: usize, n: u32) -> usize
 {
     let low = put_byte(out, at, n / 256);
     put_byte(out, low, n % 256)
+}
+
+// The same for arrow: opcode, node, command, target, cost.
+pub fn put_arrow(out: &mut [u8], at: usize, n: u32, x: u32, v: u32, c: u32) -> usize
+    requires { ⌜ (at + 8 < 2 ^ 64) × (n < nodes) × (x < commands) × (v < 65536) × (c < 65536) ⌝ }
+    ensures { λ r. ⌜ Stored (now (out .entry)) at (arrowBytes n x v c) r (now (out .exit)) ⌝ }
+{
+    let node = put_byte(out, at, 0x14);
+    let command = put_pair(out, node, n);
+    let target = put_byte(out, command, x);
+    let cost = put_pair(out, target, v);
+    put_pair(out, cost, c)
 }

@@ -11,6 +11,7 @@ ghost use Rattle.definitions.specs.Write.{pair, writtenAdd, writtenRefine, writ
 ghost use Rattle.book.specs.Decides.{Decides};
 ghost use Rattle.storing.specs.Stored.{Stored};
 ghost use Rattle.writing.specs.Meaning.{Levels, writtenLevel, writtenArrows, answerOf};
+use storing::put_arrow;
 use storing::put_byte;
 use storing::put_pair;
 
@@ -67,18 +68,6 @@ fn put_refine(out: &mut [u8], at: usize, n: u32, m: u32, s: u32) -> usize
     let machine = put_pair(out, node, n);
     let start = put_byte(out, machine, m);
     put_pair(out, start, s)
-}
-
-// The same for arrow: node, command, target, cost.
-fn put_arrow(out: &mut [u8], at: usize, n: u32, x: u32, v: u32, c: u32) -> usize
-    requires { ⌜ (at + 8 < 2 ^ 64) × (n < nodes) × (x < commands) × (v < 65536) × (c < 65536) ⌝ }
-    ensures { λ r. ⌜ Stored (now (out .entry)) at (0x14 ∷ (pair n ++ x ∷ (pair v ++ pair c))) r (now (out .exit)) ⌝ }
-{
-    let node = put_byte(out, at, 0x14);
-    let command = put_pair(out, node, n);
-    let target = put_byte(out, command, x);
-    let cost = put_pair(out, target, v);
-    put_pair(out, cost, c)
 }
 
 // Add, if n is in use and at level l and not its machine's start node.

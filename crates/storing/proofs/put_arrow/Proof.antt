@@ -1,8 +1,8 @@
--- `writing::put_arrow` meets its contract: its bytes are stored one after the other. Assumes nothing.
+-- `storing::put_arrow` meets its contract: its bytes are stored one after the other. Assumes nothing.
 use borrow.Author.Needs.{needs}
 use Rattle.storing.proofs.Laws.{stored-then}
-use Rattle.writing.proofs.put_arrow.Statement.{statement}
-use Rattle.writing.proofs.put_arrow.Tie as tie
+use Rattle.storing.proofs.put_arrow.Statement.{statement}
+use Rattle.storing.proofs.put_arrow.Tie as tie
 
 put-byte-requires : tie.Need-put-byte-requires
 put-byte-requires c κs = search needs
