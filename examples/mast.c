@@ -1,7 +1,8 @@
 /*
 ** Opens a holding, loads the stream whose hexadecimal text is named on the command line, refreshes it, and prints the cheapest plan
 ** from state 0 to state 2 and from state 2 to state 11, with each state that the station passes and the node and level that acted. Then
-** it merges the book with itself, and plans from state 0 to state 2 again and between the same states of the twin.
+** it imports a probe's timing of node 1's transition and plans from state 0 to state 2 over it. Finally it merges the book with itself, and
+** plans from state 0 to state 2 again and between the same states of the twin.
 */
 #include <ctype.h>
 #include <stdio.h>
@@ -64,6 +65,17 @@ static void show_plan(uint32_t from, uint32_t to) {
   printf("\n");
 }
 
+/* Imports seconds that a transition took, and loads the bytes with a refresh behind them. */
+static void import_taken(uint32_t node, uint32_t command, uint32_t target, float seconds, float dead_time) {
+  uint8_t bytes[HIMM_IMPORT_BYTES + 1];
+  uint32_t length;
+  must("import", himm_import(node, command, target, HIMM_SECONDS_TAKEN, seconds, dead_time, bytes, HIMM_IMPORT_BYTES, &length));
+  printf("imported %g seconds less %g: node %u, command %u,", seconds, dead_time, (unsigned)node, (unsigned)command);
+  printf(" to node %u, cost %u\n", (unsigned)target, (unsigned)(bytes[6] << 8 | bytes[7]));
+  bytes[length] = HIMM_REFRESH;
+  load(bytes, length + 1);
+}
+
 /* Puts the book merged with itself in its place, and prints the new root and its nodes with the machines that they hold. */
 static void merge_with_itself(void) {
   static uint32_t old[HIMM_BOOK_WORDS];
@@ -89,6 +101,8 @@ int main(int argc, char **argv) {
   load(refresh, sizeof refresh);
   show_plan(0, 2);
   show_plan(2, 11);
+  import_taken(1, 1, 2, 8.5f, 0.25f);
+  show_plan(0, 2);
   merge_with_itself();
   load(refresh, sizeof refresh);
   show_plan(0, 2);

@@ -21,8 +21,13 @@
 ** before a refused one stay done. Where two refusals hold, the one that the call lists first is returned. Within one refusal all
 ** arguments are looked at before the next: a plan from a node that is not in use to node 256 is refused with HIMM_OUT_OF_RANGE.
 **
-** ANY INPUT. Every call comes to an end on any words and bytes. A book and a sheet from elsewhere are checked whole by each call that
-** reads them, and no earlier call is trusted.
+** ANY INPUT. Every call comes to an end on any words, bytes and floats. A book and a sheet from elsewhere are checked whole by each call
+** that reads them, and no earlier call is trusted.
+**
+** FLOATS. himm_import is the one call that takes floats. It wants the default floating-point environment: rounding to nearest, halfway to
+** even, with subnormal numbers neither flushed to zero nor read as zero, and no exception trapped; it may raise the exceptions' flags. Its
+** proof assumes that, and in another environment its answers may be wrong. Some compilers have a program that is linked with -ffast-math or
+** the like start with subnormals flushed.
 */
 #ifndef HIMM_H
 #define HIMM_H
@@ -52,12 +57,13 @@ extern "C" {
 
 /*
 ** Sizes: the words of a book and of a sheet, which are exact; the bytes of a plan buffer and of an output that are enough for every
-** book; the largest cost of a plan; how many commands of a list himm_choose looks at.
+** book, and of an output that are enough for every timing; the largest cost of a plan; how many commands of a list himm_choose looks at.
 */
 #define HIMM_BOOK_WORDS 4737
 #define HIMM_SHEET_WORDS 2880
 #define HIMM_PLAN_BYTES 255
 #define HIMM_STREAM_BYTES 33918
+#define HIMM_IMPORT_BYTES 8
 #define HIMM_LARGEST_PLAN_COST 16711425
 #define HIMM_LIST_COMMANDS 65536
 
@@ -82,6 +88,12 @@ extern "C" {
 #define HIMM_REFRESH 0x18 /* fills the rows of every stale machine in the sheet */
 
 /*
+** Kinds of a probe's reading: seconds that a transition took, and seconds waited for one that did not come to its end.
+*/
+#define HIMM_SECONDS_TAKEN 0
+#define HIMM_SECONDS_WAITED 1
+
+/*
 ** Refusals. The number is what a call returns.
 */
 enum himm_refusal {
@@ -91,7 +103,7 @@ enum himm_refusal {
   HIMM_FALSE_SHEET = 3,      /* the sheet is not true of the book */
   HIMM_CUT_SHORT = 4,        /* the stream ends inside a command */
   HIMM_UNKNOWN_OPCODE = 5,   /* a byte that is no opcode */
-  HIMM_OUT_OF_RANGE = 6,     /* a machine, node or command that is not under its limit */
+  HIMM_OUT_OF_RANGE = 6,     /* a machine, node or command that is not under its limit, or an unknown kind of reading */
   HIMM_NOT_IN_USE = 7,       /* a machine or node that is not in use */
   HIMM_IN_USE = 8,           /* a new machine or node that is in use already */
   HIMM_ALREADY_REFINED = 9,  /* refine: the node holds a machine already */
@@ -104,7 +116,8 @@ enum himm_refusal {
   HIMM_NO_WAY = 16,          /* no list of commands leads there */
   HIMM_STOPS = 17,           /* no transition is found: the station stops */
   HIMM_NEITHER_ARRIVES = 18, /* choose: neither list arrives */
-  HIMM_TOO_FEW_NUMBERS = 19  /* merge: the first book has too few unused numbers */
+  HIMM_TOO_FEW_NUMBERS = 19, /* merge: the first book has too few unused numbers */
+  HIMM_BAD_TIMING = 20       /* import: the timing gives no cost from 0 to HIMM_LARGEST_COST */
 };
 
 /*
@@ -235,6 +248,31 @@ uint32_t himm_choose(const uint32_t *book, size_t book_len, uint32_t from, uint3
 */
 uint32_t himm_merge(const uint32_t *first, size_t first_len, const uint32_t *second, size_t second_len, uint32_t *book, size_t book_len,
                     uint32_t *sheet, size_t sheet_len);
+
+/*
+** himm_import: the bytes of a stream that record a probe's timing of a transition, for himm_load to take. A transition that took some
+** seconds is set (HIMM_ARROW, 8 bytes): its cost is the least whole number that is not below the seconds less the dead time, where that
+** difference is first rounded, once, to a 32-bit float, as a subtraction of floats rounds it. One that was waited for without an end is
+** deleted (HIMM_CLEAR, 4 bytes). No book is looked at: whether the nodes are in use and in one machine is judged when the bytes are loaded.
+**
+**   node, command, target  the transition; the target must be in range also for a wait, though its bytes do not name it
+**   kind                   HIMM_SECONDS_TAKEN or HIMM_SECONDS_WAITED
+**   seconds                the reading, any float, infinite and no number included; not judged for a wait. It is wanted as the probe
+**                          logged it: a double is rounded to a float on its way in
+**   dead_time              the seconds that the probe itself adds to every reading, likewise
+**   out, out_len           takes the bytes at its front; later bytes are untouched. HIMM_IMPORT_BYTES bytes are always enough
+**   length                 how many bytes there are: 8 or 4
+**
+** Minus zero is zero, for the seconds, the dead time and the difference. It is the rounded difference that is judged: 65,535 + 1/256
+** seconds less a dead time of 1/512 lies halfway between 65,535 and the next float and goes to the even one, so the cost is 65,535.
+**
+** It wants the default floating-point environment: to nearest, no flush to zero (FLOATS, above).
+**
+** Refuses: HIMM_OUT_OF_RANGE (node, command, target or kind), HIMM_BAD_TIMING (taken: the seconds or the dead time infinite, no number or
+** below zero, or the rounded difference below zero or above HIMM_LARGEST_COST), HIMM_BUFFER_TOO_SHORT (out is shorter than the bytes).
+*/
+uint32_t himm_import(uint32_t node, uint32_t command, uint32_t target, uint32_t kind, float seconds, float dead_time, uint8_t *out,
+                     size_t out_len, uint32_t *length);
 
 #ifdef __cplusplus
 }

@@ -2,14 +2,18 @@
 
 use crate::library::Library;
 use crate::rows::Agreement;
-use crate::side::{half_full, kinds, Side, ROUNDS};
+use crate::side::{half_full, hard, kinds, logged, Side, ROUNDS};
 use crate::timing::{rounds, Times};
 
 /// A row: its name, the call that it needs, and its work of one round, which gives an answer that both libraries must agree on.
 type Row = (&'static str, &'static str, fn(&Side, usize, &mut Times) -> Vec<u32>);
 
-/// The row that needs no book.
-const OPENING: Row = ("open the ladder", "himm_open_ladder", |side, _, t| side.open(t));
+/// The rows that need no book.
+const BARE: [Row; 3] = [
+    ("open the ladder", "himm_open_ladder", |side, _, t| side.open(t)),
+    ("import 1,000 timings", "himm_import", |side, i, t| words(side.import(&logged(i), t))),
+    ("import 1,000 hard timings", "himm_import", |side, i, t| words(side.import(&hard(i), t))),
+];
 
 /// The rows of each kind of book. Steps are compared by state and cost, since a library before version 2 does not name the node.
 const ROWS: [Row; 13] = [
@@ -34,6 +38,11 @@ const MERGING: [Row; 2] = [
     ("write and load both", "himm_load", |side, i, t| side.write_and_load_both(i, t)),
 ];
 
+/// The answer of work that gives bytes.
+fn words(bytes: Vec<u8>) -> Vec<u32> {
+    bytes.into_iter().map(u32::from).collect()
+}
+
 /// The answer of work that gives none.
 fn none(_: ()) -> Vec<u32> {
     vec![]
@@ -48,7 +57,7 @@ pub fn table(before: &'static Library, after: &'static Library, agreement: &mut 
     println!();
     println!("{:<38} {:>9} {:>9} {:>8}   10 % .. 90 %", "", "before", "after", "ratio");
     let (_, one, other) = &both[0];
-    row(&OPENING, one, other, agreement);
+    BARE.iter().for_each(|each| row(each, one, other, agreement));
     for (name, before, after) in &both {
         println!("{name}: {} in turn", before.books.len());
         ROWS.iter().for_each(|each| row(each, before, after, agreement));

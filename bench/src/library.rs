@@ -1,5 +1,6 @@
 //! A library opened by its file, so that two of them can be measured in one process; and its calls on slices.
 
+use himm_model::import::Import;
 use himm_model::ABSENT;
 use std::ffi::{c_char, c_int, c_void, CString};
 use std::mem::{size_of, transmute_copy};
@@ -26,6 +27,7 @@ type Plan = unsafe extern "C" fn(*const u32, usize, *const u32, usize, u32, u32,
 type Write = unsafe extern "C" fn(*const u32, usize, *mut u8, usize, *mut u32) -> u32;
 type Choose = unsafe extern "C" fn(*const u32, usize, u32, u32, *const u8, usize, *const u8, usize, *mut u32, *mut u32) -> u32;
 type Merge = unsafe extern "C" fn(*const u32, usize, *const u32, usize, *mut u32, usize, *mut u32, usize) -> u32;
+type Importing = unsafe extern "C" fn(u32, u32, u32, u32, f32, f32, *mut u8, usize, *mut u32) -> u32;
 
 /// The calls of a library, `None` where it lacks one, and the lengths of its books and sheets.
 pub struct Library {
@@ -39,6 +41,7 @@ pub struct Library {
     write: Option<Write>,
     choose: Option<Choose>,
     merge: Option<Merge>,
+    import: Option<Importing>,
     pub book_words: usize,
     pub sheet_words: usize,
 }
@@ -103,6 +106,7 @@ impl Library {
             write: opened.call("himm_write"),
             choose: opened.call("himm_choose"),
             merge: opened.call("himm_merge"),
+            import: opened.call("himm_import"),
             opened,
             book_words,
             sheet_words,
@@ -176,6 +180,15 @@ impl Library {
         let call = self.merge.expect("himm_merge");
         let (one, two) = ((first.as_ptr(), first.len()), (second.as_ptr(), second.len()));
         answer(unsafe { call(one.0, one.1, two.0, two.1, book.as_mut_ptr(), book.len(), sheet.as_mut_ptr(), sheet.len()) }, ())
+    }
+
+    /// The length of a timing's bytes, which go to the output.
+    pub fn import(&self, lent: &Import, out: &mut [u8]) -> Result<usize, u32> {
+        let (call, mut length) = (self.import.expect("himm_import"), 0);
+        let (seconds, dead_time) = (f32::from_bits(lent.seconds), f32::from_bits(lent.dead_time));
+        let (at, room) = (out.as_mut_ptr(), out.len());
+        let number = unsafe { call(lent.node, lent.command, lent.target, lent.kind, seconds, dead_time, at, room, &mut length) };
+        answer(number, length as usize)
     }
 }
 

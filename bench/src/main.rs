@@ -48,6 +48,7 @@ fn tables(library: &'static Library, agreement: &mut Agreement) {
         rows::all(name, side, agreement);
     }
     rows::merges("half-full random books", &half_full(library), agreement);
+    rows::imports(&kinds[0].1, agreement);
     parts(&kinds);
     grown(library, &kinds, agreement);
     for (_, side) in &kinds {

@@ -2,11 +2,12 @@
 
 use crate::holding::{tree_words, Holding};
 use crate::library::Moved;
-use crate::side::{Choice, Side, BOOKS, ROUNDS};
+use crate::side::{hard, logged, Choice, Side, BOOKS, IMPORT_BYTES, ROUNDS, TIMINGS};
 use crate::timing::{medians, print_row, rounds, timed, Times};
 use himm_model::flat::Flat;
+use himm_model::import::Import;
 use himm_model::stream::Station;
-use himm_model::{book, choose, merge, write};
+use himm_model::{book, calls, choose, merge, write};
 
 /// How many answers were compared, and how many of them differed.
 #[derive(Default)]
@@ -161,6 +162,44 @@ pub fn merges(name: &str, side: &Side, agreement: &mut Agreement) {
         agreement.of(loaded, [first, second].map(|holding| tree_words(&holding.book)).concat());
     };
     rounds(ROUNDS, |i, t| side.merge(i, t), both, agree).print("merge two half-full random books", "write and load both (ours)");
+}
+
+/// Imports against Rust's floats and against the model, which works them out digit by digit.
+pub fn imports(side: &Side, agreement: &mut Agreement) {
+    println!();
+    println!("timings: {TIMINGS} in each round, new ones each time");
+    for (name, timings) in [("import 1,000 timings", logged as fn(usize) -> Vec<Import>), ("import 1,000 hard timings", hard)] {
+        let ours = |i: usize, times: &mut _| side.import(&timings(i), times);
+        let floats = |i: usize, times: &mut _| stream_of(&timings(i), by_floats, times);
+        rounds(ROUNDS, ours, floats, |a, b| agreement.of(a, b)).print(name, "Rust's floats");
+        let model = |i: usize, times: &mut _| stream_of(&timings(i), by_model, times);
+        rounds(ROUNDS / 4, ours, model, |a, b| agreement.of(a, b)).print(name, "the plain model's import");
+    }
+}
+
+/// The bytes of all timings, each put at the end by a function; the output's memory is there before the clock runs.
+fn stream_of(timings: &[Import], put: fn(&Import, &mut Vec<u8>), times: &mut Times) -> Vec<u8> {
+    let mut stream = vec![u8::MAX; IMPORT_BYTES * timings.len()];
+    stream.clear();
+    timed(times, || timings.iter().for_each(|lent| put(lent, &mut stream)));
+    stream
+}
+
+/// The model's bytes, none where it refuses.
+fn by_model(lent: &Import, stream: &mut Vec<u8>) {
+    stream.extend(calls::import(lent, IMPORT_BYTES).unwrap_or_default());
+}
+
+/// The same in plain floats, without a look at node, command and target.
+fn by_floats(lent: &Import, stream: &mut Vec<u8>) {
+    let (seconds, dead_time) = (f32::from_bits(lent.seconds), f32::from_bits(lent.dead_time));
+    let (node, command, target, difference) = (lent.node as u8, lent.command as u8, lent.target as u8, seconds - dead_time);
+    if lent.kind == 1 {
+        stream.extend_from_slice(&[0x15, 0, node, command]);
+    } else if [seconds, dead_time].iter().all(|float| (0.0..f32::INFINITY).contains(float)) && (0.0..=65535.0).contains(&difference) {
+        let [high, low] = (difference.ceil() as u16).to_be_bytes();
+        stream.extend_from_slice(&[0x14, 0, node, command, 0, target, high, low]);
+    }
 }
 
 /// Where a plan's time goes: lengths, book, sheet, and the rest, which is the tables, the search and the expansion; beside it the flat

@@ -5,7 +5,8 @@ use crate::holding::{then_refresh, tree_words, Holding, PLAN_BYTES};
 use crate::library::{Library, Moved};
 use crate::timing::{timed, Times};
 use himm_model::flat::Flat;
-use himm_model::random::{Costs, Growth, Random, Shape};
+use himm_model::import::Import;
+use himm_model::random::{self, Costs, Growth, Random, Shape};
 use himm_model::{COMMANDS, LIST_COMMANDS, MACHINES, NODES, STREAM_BYTES};
 
 /// How often each piece of work is timed.
@@ -16,6 +17,13 @@ pub const BOOKS: usize = 32;
 
 /// How long the short lists are that are chosen from.
 const LIST: usize = 64;
+
+/// How many timings are imported in a round, and the bytes that each may need.
+pub const TIMINGS: usize = 1000;
+pub const IMPORT_BYTES: usize = 8;
+
+/// The longest dead time of a probe, in seconds.
+const DEAD_TIME: f32 = 0.25;
 
 /// Books, taken in turn round by round, so that no side meets the same book twice in a row where there is more than one; beside them the
 /// same with every machine stale, and a fresh one. Streams and long lists are by book, the other inputs by round.
@@ -181,6 +189,41 @@ impl Side {
         });
         holdings.iter().flat_map(|holding| tree_words(&holding.book).to_vec()).collect()
     }
+
+    /// Timings imported one behind the other into a stream, whose bytes it gives; refused ones are left out. The output is filled outside
+    /// the clock.
+    pub fn import(&self, timings: &[Import], times: &mut Times) -> Vec<u8> {
+        let (mut out, mut length) = (vec![u8::MAX; IMPORT_BYTES * timings.len()], 0);
+        timed(times, || timings.iter().for_each(|lent| length += self.library().import(lent, &mut out[length..]).unwrap_or(0)));
+        out.truncate(length);
+        out
+    }
+}
+
+/// The timings of a round as probes log them: seconds of every size up to the largest cost, every tenth waited for without an end.
+pub fn logged(round: usize) -> Vec<Import> {
+    timings(round, |random| {
+        let dead_time = random.below(1 << 20) as f32 / (1 << 20) as f32 * DEAD_TIME;
+        let seconds = (random.below(65_000 << 15) >> random.below(16)) as f32 / 32768.0 + dead_time;
+        (seconds.to_bits(), dead_time.to_bits())
+    })
+}
+
+/// Such timings whose floats are hard: subnormal, halfway, no numbers; some of them are refused.
+pub fn hard(round: usize) -> Vec<Import> {
+    timings(round, random::timing)
+}
+
+/// Timings at random places, with the bits of seconds and dead time made by a function.
+fn timings(round: usize, floats: fn(&mut Random) -> (u32, u32)) -> Vec<Import> {
+    let mut random = Random::new(round as u64);
+    let mut one = || {
+        let [node, target] = [0, 1].map(|_| random.below(NODES) as u32);
+        let (command, kind) = (random.below(COMMANDS) as u32, random.chance(10) as u32);
+        let (seconds, dead_time) = floats(&mut random);
+        Import { node, command, target, kind, seconds, dead_time }
+    };
+    (0..TIMINGS).map(|_| one()).collect()
 }
 
 impl Choice {

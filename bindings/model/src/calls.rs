@@ -1,8 +1,9 @@
 //! The public calls: refusals in the order of documents 01 and 02, then what the call gives. `Err` holds the refusal's number.
 
 use crate::flat::Flat;
+use crate::import::{self, Import, Reading};
 use crate::sheet::{self, is_stale, Exits};
-use crate::stream::{Row, Station};
+use crate::stream::{Command, Row, Station};
 use crate::tree::{Moved, Tree};
 use crate::{book, choose, merge, write, BOOK_WORDS, COMMANDS, MACHINES, NODES, SHEET_WORDS};
 
@@ -89,4 +90,17 @@ pub fn merge(first: &[u32], second: &[u32], book_len: usize, sheet_len: usize) -
     ask(12, !one.is_deep() && !other.is_deep())?;
     let merged = merge::merge(&one, &other).ok_or(19u32)?;
     Ok((book::encode(&merged), sheet::stale(&merged)))
+}
+
+/// Import into an output of so many bytes: refuses 6, 20, 15.
+pub fn import(lent: &Import, room: usize) -> Result<Vec<u8>, u32> {
+    let (node, command, target) = (lent.node as usize, lent.command as usize, lent.target as usize);
+    ask(6, node < NODES && command < COMMANDS && target < NODES)?;
+    let edit = match lent.reading().ok_or(6u32)? {
+        Reading::Taken(seconds) => Command::Arrow { node, command, target, cost: import::cost(seconds, lent.dead_time).ok_or(20u32)? },
+        Reading::Waited(_) => Command::Clear { node, command },
+    };
+    let bytes = edit.bytes();
+    ask(15, room >= bytes.len())?;
+    Ok(bytes)
 }

@@ -6,6 +6,7 @@ pub mod book;
 pub mod calls;
 pub mod choose;
 pub mod flat;
+pub mod import;
 pub mod merge;
 pub mod random;
 pub mod sheet;

@@ -221,6 +221,43 @@ pub fn edit(random: &mut Random, tree: &Tree) -> Command {
     }
 }
 
+/// The bits of some seconds and of a dead time. Most give a cost, and most of these are close to where it changes.
+pub fn timing(random: &mut Random) -> (u32, u32) {
+    let limit = random.pick(&[2, 256, 65536]);
+    let whole = random.below(limit) as f32;
+    match random.below(8) {
+        0 => (random.word() as u32, random.word() as u32),
+        1 => (subnormal(random), subnormal(random)),
+        2 => (near(random, whole), random.pick(&[0f32, -0.0]).to_bits()),
+        3 | 4 => less_nearly_whole(random, whole),
+        5 | 6 => less_nearly_half(random, whole),
+        _ => less_nearly_half(random, 65535.0),
+    }
+}
+
+/// The bits of a float or of one of its neighbours.
+fn near(random: &mut Random, float: f32) -> u32 {
+    float.to_bits().wrapping_add(random.below(5) as u32).wrapping_sub(2)
+}
+
+/// The bits of a float under the smallest normal one, or of zero.
+fn subnormal(random: &mut Random) -> u32 {
+    random.below(1 << 23) as u32 >> random.below(24)
+}
+
+/// A dead time of any size up to a day, and seconds that are longer by a whole number or nearly so.
+fn less_nearly_whole(random: &mut Random, whole: f32) -> (u32, u32) {
+    let dead_time = random.below(86_400 << 8) as f32 / (1u64 << random.below(40)) as f32;
+    (near(random, whole + dead_time), dead_time.to_bits())
+}
+
+/// Seconds of a whole number or nearly so, and a dead time of some quarters of the distance to the next float, or nearly so.
+fn less_nearly_half(random: &mut Random, whole: f32) -> (u32, u32) {
+    let step = f32::from_bits(whole.to_bits() + 1) - whole;
+    let quarters = random.below(8) as f32;
+    (near(random, whole), near(random, quarters / 4.0 * step))
+}
+
 fn some_command(random: &mut Random) -> usize {
     if random.chance(2) {
         random.below(256)

@@ -36,6 +36,9 @@ pub const SHEET_WORDS: usize = 2880;
 pub const PLAN_BYTES: usize = 255;
 pub const STREAM_BYTES: usize = 33918;
 
+/// An output that is long enough for every timing that is imported.
+pub const IMPORT_BYTES: usize = 8;
+
 /// How many commands of a list [`choose`] looks at.
 pub const LIST_COMMANDS: usize = 65536;
 
@@ -81,6 +84,23 @@ pub enum Which {
 pub struct Chosen<'a> {
     pub which: Which,
     pub part: &'a [u8],
+}
+
+/// What a probe reads.
+#[derive(Clone, Copy, Debug, PartialEq)]
+pub enum Reading {
+    /// The seconds that a transition took.
+    Taken(f32),
+    /// The seconds waited for one that did not come to its end. They are not judged.
+    Waited(f32),
+}
+
+/// A probe's timing of a transition.
+#[derive(Clone, Copy, Debug, PartialEq)]
+pub struct Timing {
+    pub reading: Reading,
+    /// The seconds that the probe itself adds to a reading. They are not judged where the transition did not come to its end.
+    pub dead_time: f32,
 }
 
 /// Makes a book of one machine, the root 0, with its start node 0.
@@ -190,4 +210,27 @@ pub fn merge(first: &[u32], second: &[u32], book: &mut [u32], sheet: &mut [u32])
         )
     };
     Refusal::check(number)
+}
+
+/// The bytes that record a timing when they are loaded, at the front of the lent output: they set the transition, with the least whole
+/// number that is not below the seconds less the dead time as its cost, that difference rounded once to an `f32`; or they delete it, where
+/// it was waited for without an end. The floating-point environment must be the default one, as it is in Rust.
+///
+/// ```
+/// use himm::{Reading, Timing};
+/// let mut out = [0; himm::IMPORT_BYTES];
+/// let took = Timing { reading: Reading::Taken(1.5), dead_time: 0.25 };
+/// assert_eq!(himm::import(1, 1, 2, took, &mut out)?, [0x14, 0, 1, 1, 0, 2, 0, 2]);
+/// let waited = Timing { reading: Reading::Waited(60.0), dead_time: 0.25 };
+/// assert_eq!(himm::import(1, 1, 2, waited, &mut out)?, [0x15, 0, 1, 1]);
+/// # Ok::<(), himm::Refusal>(())
+/// ```
+pub fn import(node: u32, command: u32, target: u32, timing: Timing, out: &mut [u8]) -> Result<&[u8], Refusal> {
+    let (kind, seconds) = match timing.reading {
+        Reading::Taken(seconds) => (raw::HIMM_SECONDS_TAKEN, seconds),
+        Reading::Waited(seconds) => (raw::HIMM_SECONDS_WAITED, seconds),
+    };
+    let (dead_time, room, mut length) = (timing.dead_time, out.len(), 0);
+    let number = unsafe { raw::himm_import(node, command, target, kind, seconds, dead_time, out.as_mut_ptr(), room, &mut length) };
+    Refusal::check(number).map(|()| &out[..length as usize])
 }

@@ -1,5 +1,9 @@
 //! The calls as C sees them, unsafe and unwrapped; `include/himm.h` documents each.
 
+/// The kinds of a reading.
+pub const HIMM_SECONDS_TAKEN: u32 = 0;
+pub const HIMM_SECONDS_WAITED: u32 = 1;
+
 extern "C" {
     pub fn himm_open_fresh(book: *mut u32, book_len: usize, sheet: *mut u32, sheet_len: usize) -> u32;
     pub fn himm_open_ladder(book: *mut u32, book_len: usize, sheet: *mut u32, sheet_len: usize) -> u32;
@@ -57,5 +61,16 @@ extern "C" {
         book_len: usize,
         sheet: *mut u32,
         sheet_len: usize,
+    ) -> u32;
+    pub fn himm_import(
+        node: u32,
+        command: u32,
+        target: u32,
+        kind: u32,
+        seconds: f32,
+        dead_time: f32,
+        out: *mut u8,
+        out_len: usize,
+        length: *mut u32,
     ) -> u32;
 }

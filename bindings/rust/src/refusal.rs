@@ -25,11 +25,12 @@ pub enum Refusal {
     Stops = 17,
     NeitherArrives = 18,
     TooFewNumbers = 19,
+    BadTiming = 20,
 }
 
 impl Refusal {
     /// Every refusal, the one with number k at place k - 1.
-    pub const ALL: [Refusal; 19] = [
+    pub const ALL: [Refusal; 20] = [
         Refusal::WrongLength,
         Refusal::TornBook,
         Refusal::FalseSheet,
@@ -49,9 +50,10 @@ impl Refusal {
         Refusal::Stops,
         Refusal::NeitherArrives,
         Refusal::TooFewNumbers,
+        Refusal::BadTiming,
     ];
 
-    /// The refusal of a number 1 to 19.
+    /// The refusal of a number 1 to 20.
     pub fn of(number: u32) -> Option<Refusal> {
         Refusal::ALL.get((number as usize).wrapping_sub(1)).copied()
     }
@@ -61,12 +63,12 @@ impl Refusal {
         self as u32
     }
 
-    /// What a call returned: 0 is no refusal. The library returns no number over 19.
+    /// What a call returned: 0 is no refusal. The library returns no number over 20.
     pub(crate) fn check(number: u32) -> Result<(), Refusal> {
         if number == 0 {
             return Ok(());
         }
-        Err(Refusal::of(number).expect("a refusal's number is 1 to 19"))
+        Err(Refusal::of(number).expect("a refusal's number is 1 to 20"))
     }
 
     fn meaning(self) -> &'static str {
@@ -90,6 +92,7 @@ impl Refusal {
             Refusal::Stops => "the station stops",
             Refusal::NeitherArrives => "neither list arrives",
             Refusal::TooFewNumbers => "the first book has too few unused numbers",
+            Refusal::BadTiming => "the timing gives no cost from 0 to 65,535",
         }
     }
 }

@@ -33,8 +33,11 @@ fn limits_and_sizes() {
         ("HIMM_SHEET_WORDS", himm::SHEET_WORDS),
         ("HIMM_PLAN_BYTES", himm::PLAN_BYTES),
         ("HIMM_STREAM_BYTES", himm::STREAM_BYTES),
+        ("HIMM_IMPORT_BYTES", himm::IMPORT_BYTES),
         ("HIMM_LIST_COMMANDS", himm::LIST_COMMANDS),
         ("HIMM_REFRESH", himm::REFRESH as usize),
+        ("HIMM_SECONDS_TAKEN", himm::raw::HIMM_SECONDS_TAKEN as usize),
+        ("HIMM_SECONDS_WAITED", himm::raw::HIMM_SECONDS_WAITED as usize),
     ];
     for (name, value) in numbers {
         assert_eq!(value, defined(name), "{name}");
@@ -76,7 +79,11 @@ fn in_rust(argument: &str) -> String {
         (Some(name), None) => ("*mut ", kind, name),
         (None, _) => ("", kind, name),
     };
-    let kind = if kind == "size_t" { "usize".to_string() } else { kind.replace("uint", "u").replace("_t", "") };
+    let kind = match kind {
+        "size_t" => "usize".to_string(),
+        "float" => "f32".to_string(),
+        _ => kind.replace("uint", "u").replace("_t", ""),
+    };
     format!("{name}: {way}{kind}")
 }
 

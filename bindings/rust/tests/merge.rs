@@ -3,7 +3,7 @@
 mod common;
 
 use common::damage::{copy_a_field, hold, words};
-use common::{hex, Holding, MAST};
+use common::{counts, hex, Holding, MAST};
 use himm::{Moved, Refusal};
 use himm_model::book::{decode, encode, machine_at, node_at};
 use himm_model::flat::Flat;
@@ -292,11 +292,6 @@ fn compare_pair(random: &mut Random, shapes: [Shape; 2]) -> u32 {
         third.compare_round_trip(&mut Holding::ladder());
     }
     number
-}
-
-/// How often each of some answers was given.
-fn counts<const N: usize>(answers: &[u32], numbers: [u32; N]) -> [usize; N] {
-    numbers.map(|number| answers.iter().filter(|&&answer| answer == number).count())
 }
 
 #[test]

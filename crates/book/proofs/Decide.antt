@@ -23,6 +23,11 @@ passed b d e = holds b d (not-false b e)
 pub refused : {P : Type 0} (b : Bool) → Decides b P → not b ≡ true → P → ⊥
 refused b d e = fails b d (not-true b e)
 
+-- an answer is right where it is true exactly if the statement holds
+pub decides-by : {P : Type 0} (b : Bool) → (b ≡ true → P) → (P → b ≡ true) → Decides b P
+decides-by true f g = f refl
+decides-by false f g = λ p. true-false (g p) refl
+
 -- what decides a statement decides one that holds where it does
 pub decides-same : {P Q : Type 0} (b : Bool) → (P → Q) → (Q → P) → Decides b P → Decides b Q
 decides-same true f g d = f d

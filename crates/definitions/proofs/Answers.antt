@@ -9,10 +9,11 @@ use native.Mathlib.Omega.{arith}
 use lib.Dec.{eqb}
 use lib.ListN.{length, getD, take, drop}
 use lib.Seq.{take-at}
+use lib.Ieee.{Float}
 use borrow.Author.Tests.{eqb-false, not-true}
 use Rattle.definitions.specs.Basics.{Least}
 use Rattle.definitions.specs.Limits.{nodes, commands, sheetLength}
-use Rattle.definitions.specs.Tree.{Tree, UsedNode, states}
+use Rattle.definitions.specs.Tree.{Tree, Transition, UsedNode, states}
 use Rattle.definitions.specs.Step.{Arrival, step, acting}
 use Rattle.definitions.specs.Costs.{LeastCost}
 use Rattle.definitions.specs.Sheet.{Rows, rowsOf, encodeRows}
@@ -26,6 +27,7 @@ use Rattle.definitions.specs.Choose.{Choice, first, cheaperOf, partOf, p
 use Rattle.definitions.specs.Write.{written, GivesBytes, WriteSays}
 use Rattle.definitions.specs.Open.{openRows}
 use Rattle.definitions.specs.Merge.{mergeRefusals, MergeSays}
+use Rattle.definitions.specs.Import.{Reading, took, waited, Timed, settingBytes, importRefusals, ImportSays}
 use Rattle.definitions.proofs.Options.{none-some, some-same, true-false, and-true}
 
 -- an answer that gives a value refuses nothing
@@ -330,6 +332,22 @@ write-one book out {answer} {other} {out′} {out″} one two =
     both-ways
     (one-outcome (bookRefusals book []) (book-exclusive book [] tt) {R = Keeps answer out out′} {S = Keeps other out out″} one two)
     (λ i (a, b) (c, d). (a ∙ sym c, b ∙ sym d)) (bytes-one (written (treeOf book)) (written (treeOf book)) out refl)
+
+-- a timing gives one transition
+pub timed-same : (reading : Reading) (dead : Float) (v : ℕ) {o p : Option Transition} → Timed reading dead v o → Timed reading dead v p → o ≡ p
+timed-same (took seconds) dead v (c, least, is) (d, too, as-well) =
+    is ∙ ap (λ (k : ℕ). some (record { target = v; cost = k })) (least-same least too) ∙ sym as-well
+timed-same (waited seconds) dead v gone too = gone ∙ sym too
+
+-- the import's answer and output
+pub import-one : (n x v : ℕ) (reading : Reading) (dead : Float) (out : List ℕ) {answer other : Answer} {out′ out″ : List ℕ}
+    → ImportSays n x v reading dead out answer out′ → ImportSays n x v reading dead out other out″ → (answer ≡ other) × (out′ ≡ out″)
+import-one n x v reading dead out {answer} {other} {out′} {out″} one two =
+    both-ways
+    (one-outcome (importRefusals n x v reading dead)
+    (λ bad good. bad good, (λ bad good. bad good, tt)) {R = Keeps answer out out′} {S = Keeps other out out″} one two)
+    (λ i (a, b) (c, d). (a ∙ sym c, b ∙ sym d))
+    (λ (o, timed, given) (p, too, as-well). bytes-one (settingBytes n x o) (settingBytes n x p) out (ap (settingBytes n x) (timed-same reading dead v timed too)) given as-well)
 
 -- Choose's choice and number, and so the part, its place and the word
 pub choice-one : (book : List ℕ) (a b : ℕ) (one two : List ℕ) {choice other : Choice} {k j : ℕ} → ChoiceSays book a b one two choice k

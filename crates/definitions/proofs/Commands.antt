@@ -778,7 +778,7 @@ pub record OneTransition (t : Tree) (n x : ℕ) (o : Option Transition) (u : Tre
   pub rows : RowsLeft u (λ p. over t p n ≡ true) NoneGone NoneGone r q
 
 -- a function of two numbers changed at one place
-both-here : {A : Type 0} (f : ℕ → ℕ → A) (n x : ℕ) (v : A) → put f n (put (f n) x v) n x ≡ v
+pub both-here : {A : Type 0} (f : ℕ → ℕ → A) (n x : ℕ) (v : A) → put f n (put (f n) x v) n x ≡ v
 both-here {A} f n x v = ap (λ (g : ℕ → A). g x) (put-same f n (put (f n) x v)) ∙ put-same (f n) x v
 
 both-elsewhere : {A : Type 0} (f : ℕ → ℕ → A) (n x : ℕ) (v : A) (k y : ℕ) → ((k ≡ n) × (y ≡ x) → ⊥) → put f n (put (f n) x v) k y ≡ f k y

@@ -21,4 +21,5 @@ pub mod Tests
 pub mod Mast
 pub mod Answers
 pub mod Acting
+pub mod Imports
 pub mod Merges

@@ -1,6 +1,6 @@
--- The mast book of document 01: its starred examples, by computing with the definitions; and that an exit may end inside its machine.
--- Assumes nothing.
-use mathlib.Core.Path.{_≡_, refl}
+-- The mast book of document 01: its starred examples, by computing with the definitions; the claims of W-202 and W-203 on it; and that an
+-- exit may end inside its machine. Assumes nothing.
+use mathlib.Core.Path.{_≡_, refl, _∙_}
 use mathlib.Core.Logic.{inl, inr}
 use mathlib.Core.Bool.{false}
 use mathlib.Core.Option.{Option, none, some}
@@ -8,6 +8,8 @@ use mathlib.Core.List.{List, [], _∷_}
 use Prim.Native.Nat.{ℕ, zero, suc, _<_}
 use native.Mathlib.Omega.{arith}
 use lib.ListN.{getD}
+use lib.IntN.{negsuc}
+use lib.Ieee.{Float, fin, sub}
 use Rattle.definitions.specs.Basics.{iterate, countBelow, anyBelow, All, Distinct}
 use Rattle.definitions.specs.Limits.{commands}
 use Rattle.definitions.specs.Tree.{Tree, Sound, states, above, pathF, path, level}
@@ -21,8 +23,9 @@ use Rattle.definitions.specs.Edit.{firstHolding, refusals, refusal, sing
 use Rattle.definitions.specs.Load.{next, loadF, load, expected}
 use Rattle.definitions.specs.Open.{freshTree, fresh, openTree}
 use Rattle.definitions.specs.Answer.{gives, refuses}
-use Rattle.definitions.specs.Calls.{Acts, Plan, StepSays}
+use Rattle.definitions.specs.Calls.{Acts, Plan, StepSays, LoadAnswer, LoadSays}
 use Rattle.definitions.specs.Demand.{Bytes}
+use Rattle.definitions.specs.Import.{took, ImportSays, Placed}
 use Rattle.definitions.specs.Mast.{mastStream, clearing, mastAfter, mastTree, RefusedWith16, MastExamples}
 use Rattle.definitions.proofs.Options.{none-some}
 use Rattle.definitions.proofs.Kept.{expected-sound}
@@ -31,7 +34,10 @@ use Rattle.definitions.proofs.Tests.{allBelow, allUnder, listed, accoun
 use Rattle.definitions.proofs.Tests.{namedTest, chainTest, leftTest, endedTest, machineTest, reachedTest, nodeTest, rowsTest}
 use Rattle.definitions.proofs.Tests.{all-under, bound-least, bound-plan, bound-none, step-says}
 use Rattle.definitions.proofs.Tests.{tested-exit, tested-sheet, tested-refused}
+use Rattle.definitions.proofs.Words.{treeOf-encode, encode-well-formed}
+use Rattle.definitions.proofs.Answers.{timed-same}
 use Rattle.definitions.proofs.Acting.{step-acts}
+use Rattle.definitions.proofs.Imports.{import-loads}
 
 -- the stream that gives node 1 a transition to itself for command 2
 unfoldable pub looping : List ℕ
@@ -232,6 +238,35 @@ unfolding computing
 step-10-by-1 =
     step-says mastTree sound 10 1 (gives (10 ∷ 1 ∷ 10 ∷ [])) (omega arith) {p = 1} refl
     (inr (refl, inr ((_, refl), (record { node = 10; cost = 1 }, refl, 10, refl, refl))))
+
+-- the claim of W-203: 12.5 seconds less a dead time of 0.25 are 12.25, so the transition of 0 for 0, to 1, gets the cost 13
+abbrev twelveAndHalf : Float
+twelveAndHalf = fin false 25 (negsuc 0)
+
+abbrev quarter : Float
+quarter = fin false 1 (negsuc 1)
+
+pub import-0-by-0 : ImportSays 0 0 1 (took twelveAndHalf) quarter (7 ∷ 7 ∷ 7 ∷ 7 ∷ 7 ∷ 7 ∷ 7 ∷ 7 ∷ 7 ∷ [])
+    (gives (8 ∷ [])) (0x14 ∷ 0 ∷ 0 ∷ 0 ∷ 0 ∷ 1 ∷ 0 ∷ 13 ∷ 7 ∷ [])
+unfolding sub
+import-0-by-0 =
+    inr (
+      omega arith,
+      inr (
+        (inl refl, inl refl, inl refl, omega arith),
+        (_, (13, (omega arith, λ k h. omega arith), refl), inr (omega arith, (refl, refl))),
+      ),
+    )
+
+pub mast-imports : (answer : LoadAnswer) (book′ sheet′ : List ℕ)
+    → LoadSays (encode mastTree) (encodeRows (freshRows mastRows)) (0x14 ∷ 0 ∷ 0 ∷ 0 ∷ 0 ∷ 1 ∷ 0 ∷ 13 ∷ []) answer book′ sheet′
+    → (answer ≡ record { bytes = 8; commands = 1; number = 0 }) × (treeOf book′ .transition 0 0 ≡ some (record { target = 1; cost = 13 }))
+unfolding sub computing
+mast-imports answer book′ sheet′ says =
+    let placed : Placed (treeOf (encode mastTree)) 0 1 (took twelveAndHalf) = rw (treeOf-encode mastTree sound) ((0, refl), refl) in
+    let (o, timed, answered, left, book, sheet) = import-loads 0 0 1 8 (took twelveAndHalf) quarter _ _ (encode mastTree) _ book′ sheet′ answer import-0-by-0
+    (encode-well-formed mastTree sound) (rw (treeOf-encode mastTree sound) (tested-sheet mastTree sound mastRows refl)) placed says in
+    (answered, left ∙ timed-same (took twelveAndHalf) quarter 1 timed (13, (omega arith, λ k h. omega arith), refl))
 
 -- With a transition of node 1 to itself for 2, a list that leaves machine 1 by 2 ends inside it, at state 10. The exit cost is the same.
 pub exit-with-loop : ExitCost (mastAfter (looping ∷ [])) 1 2 (some 4)

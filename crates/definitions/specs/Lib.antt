@@ -19,3 +19,4 @@ pub mod Session
 pub mod Demand
 pub mod Mast
 pub mod Merge
+pub mod Import

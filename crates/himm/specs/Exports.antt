@@ -1,13 +1,16 @@
 -- The public calls as C sees them: the number is returned, and what an answer gives is stored through pointers.
 use mathlib.Core.Path.{_≡_}
 use mathlib.Core.Bool.{cond}
-use mathlib.Core.List.{List}
+use mathlib.Core.Option.{Option, none, some}
+use mathlib.Core.List.{List, [], _∷_}
 use Prim.Native.Nat.{ℕ}
 use lib.Dec.{eqb}
 use lib.ListN.{getD}
-use Rattle.definitions.specs.Answer.{Answer}
+use lib.Ieee.{Float}
+use Rattle.definitions.specs.Answer.{Answer, wants, InOrder}
 use Rattle.definitions.specs.Calls.{LoadSays, ExitSays, StepSays, PlanSays}
 use Rattle.definitions.specs.Write.{WriteSays}
+use Rattle.definitions.specs.Import.{Reading, took, waited, ImportSays}
 use Rattle.definitions.specs.Choose.{Choice, first, second, ChoiceSays}
 
 -- what a word holds after the call that held `old` before it: the i-th value that the answer gives; a refusal gives none
@@ -62,3 +65,21 @@ pub record ChooseReturns (book : List ℕ) (a b : ℕ) (one two : List ℕ) (lis
   pub says : ChoiceSays book a b one two choice number
   pub list-word : list′ ≡ cond (eqb number 0) (listOf choice) list
   pub used-word : used′ ≡ cond (eqb number 0) (countOf choice) used
+
+-- the import of a reading: the number and the length, by the answer that document 02 gives (W-203)
+pub record TimingReturns (n x v : ℕ) (reading : Reading) (dead : Float) (out : List ℕ) (size number : ℕ) (out′ : List ℕ) (size′ : ℕ) : Type 0 where
+  pub answer : Answer
+  pub says : ImportSays n x v reading dead out answer out′
+  pub returned : number ≡ answer .number
+  pub size-word : size′ ≡ outOf answer 0 size
+
+-- the reading that a kind and its seconds are: 0 seconds taken, 1 seconds waited without an end
+abbrev pub readingAs : ℕ → Float → Option Reading
+readingAs kind seconds = cond (eqb kind 0) (some (took seconds)) (cond (eqb kind 1) (some (waited seconds)) none)
+
+-- the import with its reading by kind: another kind is refused with 6, and nothing is stored
+abbrev pub ImportReturns : ℕ → ℕ → ℕ → ℕ → Float → Float → List ℕ → ℕ → ℕ → List ℕ → ℕ → Type 0
+ImportReturns n x v kind seconds dead out size number out′ size′ =
+    InOrder (wants 6 (readingAs kind seconds) ∷ [])
+    (λ k. (number ≡ k) × (out′ ≡ out) × (size′ ≡ size))
+    ((reading : Reading) × (readingAs kind seconds ≡ some reading) × TimingReturns n x v reading dead out size number out′ size′)

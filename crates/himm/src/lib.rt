@@ -3,9 +3,13 @@
 ghost use Rattle.definitions.specs.Open.{freshTree, ladderTree};
 ghost use Rattle.definitions.specs.Calls.{OpenSays};
 ghost use Rattle.definitions.specs.Merge.{MergeSays};
-ghost use Rattle.himm.specs.Exports.{LoadReturns, ExitReturns, StepReturns, PlanReturns, WriteReturns, ChooseReturns};
+ghost use Rattle.himm.specs.Exports.{LoadReturns, ExitReturns, StepReturns, PlanReturns, WriteReturns, ChooseReturns, TimingReturns, ImportReturns};
+ghost use Rattle.importing.specs.Meaning.{readingOf};
 use choosing::Chosen;
 use exiting::ExitAnswer;
+use importing::ImportAnswer;
+use importing::Reading;
+use importing::Timing;
 use planning::PlanAnswer;
 use stepping::StepAnswer;
 use writing::WriteAnswer;
@@ -173,4 +177,58 @@ pub extern "C" fn himm_choose(
         }
         Chosen::Refused(k) => k,
     }
+}
+
+// Stores what the import of a timing gives.
+fn import(
+    node: u32,
+    command: u32,
+    target: u32,
+    timing: Timing,
+    out: &mut [u8],
+    length: &mut u32,
+) -> u32
+    ensures { λ r. ⌜ TimingReturns node command target (readingOf (timing .reading)) (timing .«dead_time») (now (out .entry)) (now (length .entry)) r
+        (now (out .exit)) (now (length .exit)) ⌝ }
+{
+    match importing::import(node, command, target, timing, out) {
+        ImportAnswer::Written(size) => {
+            *length = size;
+            0
+        }
+        ImportAnswer::Refused(k) => k,
+    }
+}
+
+// Import: the bytes of the stream command that a timing stands for at the front of out, and their length. The reading is seconds taken (kind 0)
+// or seconds waited without an end (kind 1). Refuses 6 (also for another kind), 20, 15.
+#[no_mangle]
+pub extern "C" fn himm_import(
+    node: u32,
+    command: u32,
+    target: u32,
+    kind: u32,
+    seconds: f32,
+    dead_time: f32,
+    out: &mut [u8],
+    length: &mut u32,
+) -> u32
+    ensures { λ r. ⌜ ImportReturns node command target kind seconds «dead_time» (now (out .entry)) (now (length .entry)) r
+        (now (out .exit)) (now (length .exit)) ⌝ }
+{
+    if kind == 0 {
+        let taken = Timing {
+            reading: Reading::Taken(seconds),
+            dead_time: dead_time,
+        };
+        return import(node, command, target, taken, out, length);
+    }
+    if kind == 1 {
+        let waited = Timing {
+            reading: Reading::Waited(seconds),
+            dead_time: dead_time,
+        };
+        return import(node, command, target, waited, out, length);
+    }
+    6
 }

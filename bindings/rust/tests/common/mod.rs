@@ -3,12 +3,14 @@
 
 pub mod damage;
 
-use himm::raw;
+use himm::{raw, Timing};
 use himm_model::flat::Flat;
+use himm_model::import::{Import, Reading};
 use himm_model::sheet::{is_stale, is_true, machine_row, node_row, Exits};
 use himm_model::stream::{Loaded, Row, Station};
 use himm_model::tree::{Moved, Tree};
 use himm_model::{book, calls, random, sheet, COMMANDS, MACHINES, NODES};
+use std::fmt::Debug;
 
 /// What an out-parameter holds before a call.
 const UNTOUCHED: u32 = 0xdead_beef;
@@ -16,6 +18,8 @@ const UNTOUCHED: u32 = 0xdead_beef;
 pub const UNTOUCHED_STEP: [u32; 3] = [UNTOUCHED, UNTOUCHED + 1, UNTOUCHED + 2];
 /// What a buffer holds before a call.
 const FILLER: u8 = 0xa5;
+/// How many bytes stand behind an output's end, which no call may touch.
+const BEHIND: usize = 16;
 
 /// The mast book of document 01, as the hexadecimal text of its stream.
 pub const MAST: &str = "10 00 0000 11 00 0001 11 00 0002 12 0001 01 000A 11 01 000B 14 0000 00 0001 0005 14 0000 02 0002 0014 \
@@ -25,6 +29,11 @@ pub const MAST: &str = "10 00 0000 11 00 0001 11 00 0002 12 0001 01 000A 11 01 0
 pub fn hex(text: &str) -> Vec<u8> {
     let digits: Vec<u32> = text.chars().filter_map(|c| c.to_digit(16)).collect();
     digits.chunks(2).map(|pair| (pair[0] * 16 + pair[1]) as u8).collect()
+}
+
+/// How often each of some answers was given.
+pub fn counts<const N: usize>(answers: &[u32], numbers: [u32; N]) -> [usize; N] {
+    numbers.map(|number| answers.iter().filter(|&&answer| answer == number).count())
 }
 
 /// A book and its sheet, lent to each call.
@@ -216,17 +225,9 @@ impl Holding {
     pub fn compare_write(&self, view: &View) {
         let long = view.book.as_ref().map_or(0, |tree| himm_model::write::stream(tree).len());
         for room in [himm::STREAM_BYTES, long, long.saturating_sub(1), 0] {
-            let mut out = vec![FILLER; room];
-            let mut length = UNTOUCHED;
-            let number = unsafe { raw::himm_write(self.book.as_ptr(), self.book.len(), out.as_mut_ptr(), room, &mut length) };
-            let mut expected = view.book.as_ref().map_err(|&k| k).and_then(|t| calls::write(t, room));
-            if let Ok(stream) = &mut expected {
-                assert_eq!(length as usize, stream.len());
-                stream.resize(room, FILLER);
-            }
-            assert_eq!(number, expected.as_ref().err().copied().unwrap_or(0), "write into {room} bytes");
-            assert!(number == 0 || length == UNTOUCHED);
-            assert!(out == expected.unwrap_or(vec![FILLER; room]), "another stream");
+            let expected = view.book.as_ref().map_err(|&k| k).and_then(|t| calls::write(t, room));
+            let write = |out, length| unsafe { raw::himm_write(self.book.as_ptr(), self.book.len(), out, room, length) };
+            compare_output(&"write", room, &expected, write);
         }
     }
 
@@ -259,6 +260,37 @@ impl View {
         let tree = self.whole.as_ref().map_err(|&k| k)?;
         calls::plan(tree, sheet, self.flat.as_ref().expect("a flat tree"), from, to, room)
     }
+}
+
+/// A call that puts bytes at the front of an output of so many bytes: its answer, the length that it stores and every byte are as
+/// expected, those that it leaves and those behind the output's end among them.
+fn compare_output(what: &dyn Debug, room: usize, expected: &Result<Vec<u8>, u32>, call: impl FnOnce(*mut u8, *mut u32) -> u32) {
+    let (mut out, mut length) = (vec![FILLER; room + BEHIND], UNTOUCHED);
+    let number = call(out.as_mut_ptr(), &mut length);
+    let (refusal, long) = expected.as_ref().map_or_else(|&k| (k, UNTOUCHED), |bytes| (0, bytes.len() as u32));
+    assert_eq!((number, length), (refusal, long), "{what:x?} into {room} bytes");
+    let mut bytes = expected.clone().unwrap_or_default();
+    bytes.resize(room + BEHIND, FILLER);
+    assert!(out == bytes, "{what:x?} into {room} bytes: other bytes");
+}
+
+/// Import by the call for C, and by the safe one where the kind of the reading is known; gives what the model gives.
+pub fn compare_import(lent: &Import, room: usize) -> Result<Vec<u8>, u32> {
+    let expected = calls::import(lent, room);
+    let (seconds, dead_time) = (f32::from_bits(lent.seconds), f32::from_bits(lent.dead_time));
+    compare_output(lent, room, &expected, |out, length| unsafe {
+        raw::himm_import(lent.node, lent.command, lent.target, lent.kind, seconds, dead_time, out, room, length)
+    });
+    let reading = lent.reading().map(|reading| match reading {
+        Reading::Taken(bits) => himm::Reading::Taken(f32::from_bits(bits)),
+        Reading::Waited(bits) => himm::Reading::Waited(f32::from_bits(bits)),
+    });
+    if let Some(reading) = reading {
+        let mut out = vec![FILLER; room];
+        let safe = himm::import(lent.node, lent.command, lent.target, Timing { reading, dead_time }, &mut out);
+        assert_eq!(safe.map_err(|refusal| refusal.number()), expected.as_deref().map_err(|&k| k), "{lent:x?}");
+    }
+    expected
 }
 
 /// Follows a plan through the tree.
