@@ -63,11 +63,11 @@ abbrev pub settingBytes : ℕ → ℕ → Option Transition → List ℕ
 settingBytes n x (some a) = arrowBytes n x (a .target) (a .cost)
 settingBytes n x none = 0x15 ∷ (pair n ++ x ∷ [])
 
--- The import gives the bytes of the edit that leaves the timing's transition. It refuses 6 (node, command or target out of range), 20 (the
--- timing) and 15, writing nothing
+-- what the import refuses before it looks at the output: 6 (node, command or target out of range), 20 (the timing)
 abbrev pub importRefusals : ℕ → ℕ → ℕ → Reading → Float → List Refusal
 importRefusals n x v reading dead = asks 6 ((n < nodes) × (x < commands) × (v < nodes)) ∷ asks 20 (Admitted reading dead) ∷ []
 
+-- the import gives the bytes of the edit that leaves the timing's transition; refused, also with 15, it writes nothing
 abbrev pub ImportSays : ℕ → ℕ → ℕ → Reading → Float → List ℕ → Answer → List ℕ → Type 0
 ImportSays n x v reading dead out answer out′ =
     InOrder (importRefusals n x v reading dead)

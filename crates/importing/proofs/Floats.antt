@@ -104,15 +104,16 @@ below-it (fin true m e) (fin false p q) k h v =
 abbrev pub zeroFloat : Float
 zeroFloat = fin false 0 (pos 0)
 
--- zero is at most x where x is at least zero, or an infinity
-pub zero-at-most : (x : Float) → AtLeastZero x → le zeroFloat x ≡ true
+-- zero is at most what is finite and not below it
+zero-at-most : (x : Float) → AtLeastZero x → le zeroFloat x ≡ true
 unfolding le
 zero-at-most nan h = absurd h
 zero-at-most (inf s) h = absurd h
 zero-at-most (fin false m e) h = at-most-test (0 * 1 * down e) (m * up e * 1) ∙ rw (zero-mul 1, zero-mul (down e)) (le-leb 0 (m * up e * 1) (omega arith))
 zero-at-most (fin true m e) h = rw (zero-mul 1, zero-mul (down e), minus-zero m e h)
 
-pub from-zero : (x : Float) → le zeroFloat x ≡ true → (x ≡ inf false) ⊎ AtLeastZero x
+-- and where zero is at most x, x is that or an infinity
+from-zero : (x : Float) → le zeroFloat x ≡ true → (x ≡ inf false) ⊎ AtLeastZero x
 unfolding le
 from-zero nan e = absurd (true≢false (sym e))
 from-zero (inf true) e = absurd (true≢false (sym e))
