@@ -9,6 +9,8 @@ use Rattle.definitions.specs.Stream.{Next, ended, taken, refused, operandLength
 use Rattle.definitions.specs.Stream.{Command as Meant}
 use Rattle.reading.specs.declared.Command.{Command}
 use Rattle.reading.specs.declared.Command.the-variants.{Begin, Add, Refine, Remove, Arrow, Clear, Start, Crown, Refresh}
+use Rattle.reading.specs.declared.Place.{Place}
+use Rattle.reading.specs.declared.Place.the-variants.{At, Nowhere}
 use Rattle.reading.specs.declared.Operands.{Operands}
 use Rattle.reading.specs.declared.Operands.the-variants.{Bytes, Unknown}
 use Rattle.reading.specs.declared.Decoded.{Decoded}
@@ -16,6 +18,11 @@ use Rattle.reading.specs.declared.Decoded.the-variants.{Known}
 use Rattle.reading.specs.declared.Decoded.the-variants as Decoded
 use Rattle.reading.specs.declared.Read.{Read}
 use Rattle.reading.specs.declared.Read.the-variants.{Ended, Taken, Refused}
+
+-- the place of an opcode, if it has one
+abbrev pub placeOf : Place → Option ℕ
+placeOf (At i) = some i
+placeOf Nowhere = none
 
 -- the bytes of operands that an opcode has
 abbrev pub operandsOf : Operands → Option ℕ

@@ -3,7 +3,8 @@ ghost use mathlib.Core.Path.{_≡_};
 ghost use Prim.Native.Nat.{_+_, _<_};
 ghost use lib.ListN.{length, drop};
 ghost use Rattle.definitions.specs.Stream.{operandLength, byteAt, pairAt, decode};
-ghost use Rattle.reading.specs.Meaning.{operandsOf, decodedOf, NarrowDecoded, Whole, NextRead};
+ghost use Rattle.reading.specs.Column.{place, entry};
+ghost use Rattle.reading.specs.Meaning.{placeOf, operandsOf, decodedOf, NarrowDecoded, Whole, NextRead};
 
 // The nine commands of a stream, with their operands.
 pub enum Command {
@@ -41,6 +42,26 @@ pub enum Command {
         node: u32,
     },
     Refresh,
+}
+
+// The column of operand lengths: how many bytes of operands each opcode of document 01's list has, in the order of that list. Nodes and
+// costs take two bytes, machines and commands one.
+const LENGTHS: [u8; 9] = [
+    3, // 0x10 begin: machine, start node
+    3, // 0x11 add: machine, new node
+    5, // 0x12 refine: node, new machine, its new start node
+    2, // 0x13 remove: node
+    7, // 0x14 arrow: node, command, target, cost
+    3, // 0x15 clear: node, command
+    2, // 0x16 start: node
+    3, // 0x17 crown: new root machine, its one node
+    0, // 0x18 refresh
+];
+
+// The place of an opcode in a column, which may end before it; or that the opcode has none.
+enum Place {
+    At(usize),
+    Nowhere,
 }
 
 // How many bytes of operands follow an opcode; or that it is the opcode of no command.
@@ -89,22 +110,34 @@ pub fn operand_pair(stream: &[u8], at: usize, k: usize) -> u32
     high * 256 + low
 }
 
+// The place of an opcode: 0x10 has the first.
+fn locate(op: u32) -> Place
+    ensures { λ r. ⌜ placeOf r ≡ place op ⌝ }
+{
+    if op < 0x10 {
+        return Place::Nowhere;
+    }
+    Place::At((op - 0x10) as usize)
+}
+
+// The number that a column has for an opcode. An opcode that has no place in the column is unknown.
+fn look_up(column: &[u8], op: u32) -> Operands
+    ensures { λ r. ⌜ operandsOf r ≡ entry (now (column .entry)) op ⌝ }
+{
+    let Place::At(i) = locate(op) else {
+        return Operands::Unknown;
+    };
+    if column.len() <= i {
+        return Operands::Unknown; // behind the column's end
+    }
+    Operands::Bytes(column[i] as usize)
+}
+
 // How many bytes of operands an opcode has.
 fn operand_length(op: u32) -> Operands
     ensures { λ r. ⌜ operandsOf r ≡ operandLength op ⌝ }
 {
-    match op {
-        0x10 => Operands::Bytes(3),
-        0x11 => Operands::Bytes(3),
-        0x12 => Operands::Bytes(5),
-        0x13 => Operands::Bytes(2),
-        0x14 => Operands::Bytes(7),
-        0x15 => Operands::Bytes(3),
-        0x16 => Operands::Bytes(2),
-        0x17 => Operands::Bytes(3),
-        0x18 => Operands::Bytes(0),
-        0x00..=0x0F | 0x19..=0xFFFFFFFF => Operands::Unknown,
-    }
+    look_up(&LENGTHS, op)
 }
 
 // The command whose opcode, at a place of a stream, is op. Where the opcode is known its operands are all there.
