@@ -1,8 +1,8 @@
 /*
 ** Opens a holding, loads the stream whose hexadecimal text is named on the command line, refreshes it, and prints the cheapest plan
 ** from state 0 to state 2 and from state 2 to state 11, with each state that the station passes and the node and level that acted. Then
-** it imports a probe's timing of node 1's transition and plans from state 0 to state 2 over it. Finally it merges the book with itself, and
-** plans from state 0 to state 2 again and between the same states of the twin.
+** it imports a probe's timing of node 1's transition and plans from state 0 to state 2 over it. It holds node 11, plans round it, and
+** releases it. Finally it merges the book with itself, and plans from state 0 to state 2 again and between the same states of the twin.
 */
 #include <ctype.h>
 #include <stdio.h>
@@ -76,6 +76,13 @@ static void import_taken(uint32_t node, uint32_t command, uint32_t target, float
   load(bytes, length + 1);
 }
 
+/* Holds a node, or releases it, and refreshes. */
+static void set_hold(uint32_t node, uint8_t hold) {
+  const uint8_t bytes[] = {HIMM_HOLD, (uint8_t)(node >> 8), (uint8_t)node, hold, HIMM_REFRESH};
+  printf("%s node %u\n", hold ? "held" : "released", (unsigned)node);
+  load(bytes, sizeof bytes);
+}
+
 /* Puts the book merged with itself in its place, and prints the new root and its nodes with the machines that they hold. */
 static void merge_with_itself(void) {
   static uint32_t old[HIMM_BOOK_WORDS];
@@ -103,6 +110,9 @@ int main(int argc, char **argv) {
   show_plan(2, 11);
   import_taken(1, 1, 2, 8.5f, 0.25f);
   show_plan(0, 2);
+  set_hold(11, 1);
+  show_plan(0, 2);
+  set_hold(11, 0);
   merge_with_itself();
   load(refresh, sizeof refresh);
   show_plan(0, 2);

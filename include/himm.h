@@ -7,8 +7,15 @@
 ** target, that is, it goes to the start node of the machine below, and on down to a state. The cost is that of the transition alone.
 ** Where no node has a transition for the command, the station stops.
 **
+** A node that is not its machine's start may be held, for maintenance, and is then avoided: every transition into it is shut, also one
+** from the node to itself. A shut transition counts as absent, in steps, exit costs and plans alike, so the command is looked for further
+** up. A held node's other transitions count as before, so a station that is at it or below it may leave. Nothing is lost by a hold:
+** transitions into a held node stay in the book, may be set and deleted, and count again once the node is released.
+**
 ** A station is kept in two lists of 32-bit words: a book (the tree) and a sheet (the exit costs and the cheapest ways inside each
-** machine, from which plans are made). The layout of both is in document 01, "Book and sheet in memory".
+** machine, from which plans are made). The layout of both is in document 01, "Book and sheet in memory"; document 02 (W-205) adds a word
+** for each node at the end of the book, from word 4,737 on: 1 where the node is held, else 0. A book is well formed only if nodes that are
+** not in use and start nodes have 0 there.
 **
 ** MEMORY. The caller owns all memory, before, during and after each call. Nothing is allocated, nothing is kept between calls, and there
 ** is no global state: calls on different memory may run on different threads at the same time, and so may calls that only read the
@@ -41,9 +48,11 @@ extern "C" {
 
 /*
 ** The version of this header, raised where a signature or a size changes. Sizes are exact, so a program and the library that it links
-** must be of one version. What changed in version 2: himm_step also stores the node whose transition was used.
+** must be of one version. What changed in version 2: himm_step also stores the node whose transition was used. In version 3: a book has
+** HIMM_NODES more words at its end, for the holds, and HIMM_STREAM_BYTES is larger. A stream of an earlier version is loaded as before; a
+** book of an earlier version becomes one of this by zeros at its end, and its sheet stays true of it.
 */
-#define HIMM_VERSION 2
+#define HIMM_VERSION 3
 
 /*
 ** Limits. A machine, a node and a command are numbers from 0, each under its limit; a cost of a transition is at most
@@ -59,10 +68,10 @@ extern "C" {
 ** Sizes: the words of a book and of a sheet, which are exact; the bytes of a plan buffer and of an output that are enough for every
 ** book, and of an output that are enough for every timing; the largest cost of a plan; how many commands of a list himm_choose looks at.
 */
-#define HIMM_BOOK_WORDS 4737
+#define HIMM_BOOK_WORDS 4993
 #define HIMM_SHEET_WORDS 2880
 #define HIMM_PLAN_BYTES 255
-#define HIMM_STREAM_BYTES 33918
+#define HIMM_STREAM_BYTES 34812
 #define HIMM_IMPORT_BYTES 8
 #define HIMM_LARGEST_PLAN_COST 16711425
 #define HIMM_LIST_COMMANDS 65536
@@ -75,17 +84,19 @@ extern "C" {
 #define HIMM_BLANK UINT32_C(4294967295)
 
 /*
-** Opcodes of a stream, with their operands. Nodes and costs take two bytes, high byte first; machines and commands take one.
+** Opcodes of a stream, with their operands. Nodes and costs take two bytes, high byte first; machines, commands and holds take one. 0x19 is
+** no opcode of a stream: the session program has it for its plans.
 */
 #define HIMM_BEGIN 0x10   /* machine, start node: a new tree of one machine; the old one is emptied first */
 #define HIMM_ADD 0x11     /* machine, new node */
-#define HIMM_REFINE 0x12  /* node, new machine, its new start node */
-#define HIMM_REMOVE 0x13  /* node: it goes with all below it and the transitions into it */
+#define HIMM_REFINE 0x12  /* node, new machine, its new start node; the node keeps its transitions and its hold */
+#define HIMM_REMOVE 0x13  /* node: it goes with all below it, their holds and the transitions into it */
 #define HIMM_ARROW 0x14   /* node, command, target, cost: sets or replaces a transition */
 #define HIMM_CLEAR 0x15   /* node, command: deletes a transition, which may be absent */
-#define HIMM_START 0x16   /* node: it becomes the start node of its machine */
+#define HIMM_START 0x16   /* node, which must not be held: it becomes the start node of its machine */
 #define HIMM_CROWN 0x17   /* new root machine, its one node, which holds the old root */
 #define HIMM_REFRESH 0x18 /* fills the rows of every stale machine in the sheet */
+#define HIMM_HOLD 0x1A    /* node, 1 or 0: the node is held, which a start node must not be, or released; it may be so already */
 
 /*
 ** Kinds of a probe's reading: seconds that a transition took, and seconds waited for one that did not come to its end.
@@ -103,7 +114,7 @@ enum himm_refusal {
   HIMM_FALSE_SHEET = 3,      /* the sheet is not true of the book */
   HIMM_CUT_SHORT = 4,        /* the stream ends inside a command */
   HIMM_UNKNOWN_OPCODE = 5,   /* a byte that is no opcode */
-  HIMM_OUT_OF_RANGE = 6,     /* a machine, node or command that is not under its limit, or an unknown kind of reading */
+  HIMM_OUT_OF_RANGE = 6,     /* a machine, node or command that is not under its limit, a hold over 1, or an unknown kind of reading */
   HIMM_NOT_IN_USE = 7,       /* a machine or node that is not in use */
   HIMM_IN_USE = 8,           /* a new machine or node that is in use already */
   HIMM_ALREADY_REFINED = 9,  /* refine: the node holds a machine already */
@@ -117,14 +128,15 @@ enum himm_refusal {
   HIMM_STOPS = 17,           /* no transition is found: the station stops */
   HIMM_NEITHER_ARRIVES = 18, /* choose: neither list arrives */
   HIMM_TOO_FEW_NUMBERS = 19, /* merge: the first book has too few unused numbers */
-  HIMM_BAD_TIMING = 20       /* import: the timing gives no cost from 0 to HIMM_LARGEST_COST */
+  HIMM_BAD_TIMING = 20,      /* import: the timing gives no cost from 0 to HIMM_LARGEST_COST */
+  HIMM_HELD_START = 21       /* hold: a start node cannot be held; start: a held node cannot become one */
 };
 
 /*
 ** himm_open_fresh: make a book of one machine, the root 0, with one node, its start 0, and no transitions.
 ** himm_open_ladder: make the book of the ladder, 63 machines of 3 nodes each on 6 levels. Node 3m + k belongs to machine m; k = 0 holds
 ** machine 2m + 1 and k = 2 holds machine 2m + 2 where these are under 63; k = 1 is the start node. Commands 0 and 1 go to the neighbours
-** k - 1 and k + 1 at cost 1.
+** k - 1 and k + 1 at cost 1. In both no node is held.
 **
 **   book, book_len    HIMM_BOOK_WORDS words, written whole; what they held does not matter
 **   sheet, sheet_len  HIMM_SHEET_WORDS words, written whole; every machine in use is stale
@@ -138,7 +150,8 @@ uint32_t himm_open_ladder(uint32_t *book, size_t book_len, uint32_t *sheet, size
 ** himm_load: do the commands of a stream in order, up to its end or to the first command that is refused.
 **
 ** A command marks stale every machine that it makes, the machine that it edits and all machines above that one, and blanks their rows
-** in the sheet; crown marks only the new root. Refresh fills the rows of all stale machines and touches no others.
+** in the sheet, even if nothing differs; hold edits the machine of its node; crown marks only the new root. Refresh fills the rows of all
+** stale machines and touches no others.
 **
 **   book, book_len      the book, edited in place
 **   sheet, sheet_len    its sheet, edited in place
@@ -148,7 +161,7 @@ uint32_t himm_open_ladder(uint32_t *book, size_t book_len, uint32_t *sheet, size
 **
 ** Refuses, with nothing done and both counts 0: HIMM_WRONG_LENGTH, HIMM_TORN_BOOK, HIMM_FALSE_SHEET.
 ** Then at each command, with those before it done and counted: HIMM_UNKNOWN_OPCODE, HIMM_CUT_SHORT, HIMM_OUT_OF_RANGE, HIMM_NOT_IN_USE,
-** HIMM_IN_USE, HIMM_ALREADY_REFINED, HIMM_START_NODE, HIMM_OTHER_MACHINE, HIMM_TOO_DEEP.
+** HIMM_IN_USE, HIMM_ALREADY_REFINED, HIMM_START_NODE, HIMM_OTHER_MACHINE, HIMM_TOO_DEEP, HIMM_HELD_START.
 */
 uint32_t himm_load(uint32_t *book, size_t book_len, uint32_t *sheet, size_t sheet_len, const uint8_t *stream, size_t stream_len,
                    uint64_t *bytes_taken, uint64_t *commands_taken);
@@ -187,7 +200,7 @@ uint32_t himm_step(const uint32_t *book, size_t book_len, uint32_t state, uint32
 
 /*
 ** himm_plan: a cheapest list of commands from one state to another. It passes no state twice, and no list that leads there costs less.
-** From a state to itself it is the empty list at cost 0.
+** From a state to itself it is the empty list at cost 0. No list leads to a held state from another one.
 **
 **   book, book_len, sheet, sheet_len  read only; no machine may be stale
 **   from, to                          two states
@@ -203,8 +216,8 @@ uint32_t himm_plan(const uint32_t *book, size_t book_len, const uint32_t *sheet,
                    uint8_t *plan, size_t plan_len, uint32_t *cost, uint32_t *count);
 
 /*
-** himm_write: the stream of a book. Loaded into any holding whose book is well formed and whose sheet is true, it is taken whole and
-** leaves the same book, every machine in use stale.
+** himm_write: the stream of a book, its holds last. Loaded into any holding whose book is well formed and whose sheet is true, it is taken
+** whole and leaves the same book, every machine in use stale.
 **
 **   book, book_len  read only; no sheet is needed
 **   out, out_len    takes the stream at its front; later bytes are untouched. HIMM_STREAM_BYTES bytes are always enough
@@ -235,7 +248,8 @@ uint32_t himm_choose(const uint32_t *book, size_t book_len, uint32_t from, uint3
 ** the lowest machines that are not in use in the first, and its nodes the lowest such nodes; all of them move, also those whose own
 ** number would be free. A new root takes the next lowest machine and the next two lowest nodes: the lower node is its start and holds
 ** the first book's root, the other holds the second's. The root has no transitions, so a cheapest list between two states of one of the
-** books costs what it cost there, where there was no way there is none, and no way leads from one of the books into the other.
+** books costs what it cost there, where there was no way there is none, and no way leads from one of the books into the other. Nodes that
+** are held stay held under their new numbers.
 **
 **   first, first_len    HIMM_BOOK_WORDS words, read only; no sheet is needed
 **   second, second_len  HIMM_BOOK_WORDS words, read only; first and second may be one and the same list

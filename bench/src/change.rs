@@ -4,18 +4,20 @@ use crate::library::Library;
 use crate::rows::Agreement;
 use crate::side::{half_full, hard, kinds, logged, Side, ROUNDS};
 use crate::timing::{rounds, Times};
+use himm_model::book::hold_at;
 
 /// A row: its name, the call that it needs, and its work of one round, which gives an answer that both libraries must agree on.
 type Row = (&'static str, &'static str, fn(&Side, usize, &mut Times) -> Vec<u32>);
 
 /// The rows that need no book.
 const BARE: [Row; 3] = [
-    ("open the ladder", "himm_open_ladder", |side, _, t| side.open(t)),
+    ("open the ladder", "himm_open_ladder", |side, _, t| front(side.open(t))),
     ("import 1,000 timings", "himm_import", |side, i, t| words(side.import(&logged(i), t))),
     ("import 1,000 hard timings", "himm_import", |side, i, t| words(side.import(&hard(i), t))),
 ];
 
-/// The rows of each kind of book. Steps are compared by state and cost, since a library before version 2 does not name the node.
+/// The rows of each kind of book. Steps are compared by state and cost, since a library before version 2 does not name the node. No node is
+/// held, and books are compared up to the holds, since a library before version 3 has none.
 const ROWS: [Row; 13] = [
     ("plan", "himm_plan", |side, i, t| side.plan(i, t).into_iter().collect()),
     ("checks of book and sheet", "himm_exit", |side, i, t| none(side.at(i).check_both(t))),
@@ -25,18 +27,24 @@ const ROWS: [Row; 13] = [
     ("exit", "himm_exit", |side, i, t| side.exit(i, t).into_iter().collect()),
     ("choose, short lists", "himm_choose", |side, i, t| side.choose(i, t).map_or(vec![], |(which, used)| vec![which, used])),
     ("choose, long lists", "himm_choose", |side, i, t| side.choose_long(i, t).map_or(vec![], |(which, used)| vec![which, used])),
-    ("load of the whole book", "himm_load", |side, i, t| side.load(i, t)),
-    ("load of an empty stream", "himm_load", |side, i, t| side.load_nothing(i, t)),
-    ("one edit and refresh", "himm_load", |side, i, t| side.edit_and_refresh(i, t)),
-    ("one edit and refresh, all stale", "himm_load", |side, i, t| side.edit_and_refresh_all(i, t)),
+    ("load of the whole book", "himm_load", |side, i, t| front(side.load(i, t))),
+    ("load of an empty stream", "himm_load", |side, i, t| front(side.load_nothing(i, t))),
+    ("one edit and refresh", "himm_load", |side, i, t| front(side.edit_and_refresh(i, t))),
+    ("one edit and refresh, all stale", "himm_load", |side, i, t| front(side.edit_and_refresh_all(i, t))),
     ("write", "himm_write", |side, i, t| vec![side.write(i, t) as u32]),
 ];
 
 /// The rows of two half-full books.
 const MERGING: [Row; 2] = [
-    ("merge two half-full random books", "himm_merge", |side, i, t| side.merge(i, t)),
-    ("write and load both", "himm_load", |side, i, t| side.write_and_load_both(i, t)),
+    ("merge two half-full random books", "himm_merge", |side, i, t| front(side.merge(i, t))),
+    ("write and load both", "himm_load", |side, i, t| side.write_and_load_both(i, t).map(front).concat()),
 ];
+
+/// The words of a book up to its holds.
+fn front(mut book: Vec<u32>) -> Vec<u32> {
+    book.truncate(hold_at(0));
+    book
+}
 
 /// The answer of work that gives bytes.
 fn words(bytes: Vec<u8>) -> Vec<u32> {

@@ -5,9 +5,9 @@ use crate::library::Library;
 use crate::rows::Agreement;
 use crate::timing::{medians, print_head, print_row, timed, Times, Work};
 use himm_model::flat::Flat;
-use himm_model::random::{Costs, Growth, Shape};
+use himm_model::random::{Growth, Shape};
 use himm_model::stream::Command;
-use himm_model::{COMMANDS, LEVELS, NODES};
+use himm_model::{LEVELS, NODES};
 
 const ROUNDS: usize = 100;
 
@@ -55,8 +55,7 @@ pub fn by_states(library: &'static Library, agreement: &mut Agreement) {
 pub fn by_levels(library: &'static Library, agreement: &mut Agreement) {
     print_head("by levels", &HEADS);
     for levels in 1..=LEVELS {
-        let shape =
-            Shape { growth: Growth::EvenChain, machines: levels, nodes: 128, commands: COMMANDS, filled: 30, loops: 5, costs: Costs::Any };
+        let shape = Shape { growth: Growth::EvenChain, machines: levels, nodes: 128, filled: 30, ..Shape::full() };
         let holding = Holding::random(library, 41, &shape);
         let lowest = holding.tree.machines_in_use().iter().filter_map(|&m| holding.tree.level(m)).max().unwrap_or(0);
         row(&format!("{lowest} levels, {} states", holding.tree.states().len()), &holding, agreement);

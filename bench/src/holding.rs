@@ -28,13 +28,8 @@ pub fn then_refresh(stream: &[u8]) -> Vec<u8> {
     [stream, &Command::Refresh.bytes()].concat()
 }
 
-/// The words of a book that hold its tree; what a newer library's book has more comes after them.
-pub fn tree_words(book: &[u32]) -> &[u32] {
-    &book[..book::node_at(NODES)]
-}
-
 impl Holding {
-    /// A tree's book with a stream loaded into it; it is the book that the model comes to.
+    /// A tree's book with a stream loaded into it; it is the book that the model comes to, or the front of it in an older library.
     fn opened(library: &'static Library, ladder: bool, stream: &[u8]) -> Holding {
         let (mut words, mut sheet) = (vec![0; library.book_words], vec![0; library.sheet_words]);
         let open = if ladder { Library::open_ladder } else { Library::open_fresh };
@@ -42,7 +37,7 @@ impl Holding {
         library.load(&mut words, &mut sheet, stream).expect("a good stream");
         let mut station = Station::stale(if ladder { Tree::ladder() } else { Tree::single(0, 0) });
         station.load(stream);
-        assert!(tree_words(&words) == tree_words(&book::encode(&station.tree)), "another book than the model's");
+        assert!(book::encode(&station.tree).starts_with(&words), "another book than the model's");
         Holding { library, book: words, sheet, tree: station.tree }
     }
 
@@ -101,11 +96,11 @@ impl Holding {
         timed(times, || self.library.plan(&self.book, &self.sheet, pair, &mut buffer)).ok()
     }
 
-    /// A stream loaded into a copy of the holding, which is made outside the clock; gives the words of the tree.
+    /// A stream loaded into a copy of the holding, which is made outside the clock; gives the words of the book.
     pub fn load(&self, stream: &[u8], times: &mut Times) -> Vec<u32> {
         let (mut words, mut sheet) = (self.book.clone(), self.sheet.clone());
         timed(times, || self.library.load(&mut words, &mut sheet, stream)).expect("a good stream");
-        tree_words(&words).to_vec()
+        words
     }
 
     /// A stream loaded into such a copy, and then a plan, whose cost it gives.

@@ -1,6 +1,6 @@
 //! The rows of one kind of book in the first table, and its parts of a plan.
 
-use crate::holding::{tree_words, Holding};
+use crate::holding::Holding;
 use crate::library::Moved;
 use crate::side::{hard, logged, Choice, Side, BOOKS, IMPORT_BYTES, ROUNDS, TIMINGS};
 use crate::timing::{medians, print_row, rounds, timed, Times};
@@ -112,12 +112,11 @@ fn steps(side: &Side, agreement: &mut Agreement) {
 fn loads(side: &Side, agreement: &mut Agreement) {
     let fresh = Holding::fresh(side.library());
     let theirs = |i: usize, times: &mut _| {
-        let words = timed(times, || {
+        timed(times, || {
             let mut station = Station::stale(fresh.tree.clone());
             station.load(&side.streams[i % side.streams.len()]);
             book::encode(&station.tree)
-        });
-        tree_words(&words).to_vec()
+        })
     };
     rounds(ROUNDS / 4, |i, t| side.load(i, t), theirs, |a, b| agreement.of(a, b)).print("load of the whole book", "the plain model's load");
 }
@@ -155,11 +154,11 @@ pub fn merges(name: &str, side: &Side, agreement: &mut Agreement) {
     println!();
     println!("{}", title(name, side));
     let both = |i: usize, times: &mut _| (i, side.write_and_load_both(i, times));
-    let agree = |merged: Vec<u32>, (i, loaded): (usize, Vec<u32>)| {
+    let agree = |merged: Vec<u32>, (i, loaded): (usize, [Vec<u32>; 2])| {
         let [first, second] = side.two(i);
         let tree = merge::merge(&first.tree, &second.tree).expect("two trees that fit together");
-        agreement.of(&merged[..], tree_words(&book::encode(&tree)));
-        agreement.of(loaded, [first, second].map(|holding| tree_words(&holding.book)).concat());
+        agreement.of(merged, book::encode(&tree));
+        agreement.of(loaded, [first, second].map(|holding| holding.book.clone()));
     };
     rounds(ROUNDS, |i, t| side.merge(i, t), both, agree).print("merge two half-full random books", "write and load both (ours)");
 }

@@ -1,13 +1,13 @@
 //! Books of one kind in one library, what each round needs of them, and the work of a round. The same seeds give the same work in every
 //! library.
 
-use crate::holding::{then_refresh, tree_words, Holding, PLAN_BYTES};
+use crate::holding::{then_refresh, Holding, PLAN_BYTES};
 use crate::library::{Library, Moved};
 use crate::timing::{timed, Times};
 use himm_model::flat::Flat;
 use himm_model::import::Import;
-use himm_model::random::{self, Costs, Growth, Random, Shape};
-use himm_model::{COMMANDS, LIST_COMMANDS, MACHINES, NODES, STREAM_BYTES};
+use himm_model::random::{self, Growth, Random, Shape};
+use himm_model::{book, COMMANDS, LIST_COMMANDS, MACHINES, NODES, STREAM_BYTES};
 
 /// How often each piece of work is timed.
 pub const ROUNDS: usize = 400;
@@ -48,9 +48,19 @@ pub struct Choice {
 /// The kinds of books that are measured.
 pub fn kinds(library: &'static Library) -> Vec<(&'static str, Side)> {
     let wide = Shape { filled: 60, ..Shape::full() };
-    let chain = Shape { growth: Growth::EvenChain, machines: 8, nodes: 256, commands: COMMANDS, filled: 30, loops: 5, costs: Costs::Any };
-    let of = |shape: &Shape| Side::of((0..BOOKS).map(|seed| Holding::random(library, 40 + seed as u64, shape)).collect());
-    vec![("the ladder", Side::of(vec![Holding::ladder(library)])), ("random books", of(&wide)), ("chains of eight levels", of(&chain))]
+    let chain = Shape { growth: Growth::EvenChain, machines: 8, filled: 30, ..Shape::full() };
+    let ladder = Side::of(vec![Holding::ladder(library)]);
+    vec![("the ladder", ladder), ("random books", random_books(library, &wide)), ("chains of eight levels", random_books(library, &chain))]
+}
+
+/// Random books of a shape.
+fn random_books(library: &'static Library, shape: &Shape) -> Side {
+    Side::of((0..BOOKS).map(|seed| Holding::random(library, 40 + seed as u64, shape)).collect())
+}
+
+/// The random books again with about every tenth node held, start nodes left out; no library before version 3 has them.
+pub fn held(library: &'static Library) -> Side {
+    random_books(library, &Shape { filled: 60, holds: 10, ..Shape::full() })
 }
 
 /// Random books of which any two fit together: each has about half of the machines and of the nodes, and none at the lowest level.
@@ -103,7 +113,7 @@ impl Side {
     pub fn open(&self, times: &mut Times) -> Vec<u32> {
         let (mut book, mut sheet) = (self.fresh.book.clone(), self.fresh.sheet.clone());
         timed(times, || self.library().open_ladder(&mut book, &mut sheet)).expect("right lengths");
-        tree_words(&book).to_vec()
+        book
     }
 
     /// A plan's cost.
@@ -175,11 +185,11 @@ impl Side {
         let [first, second] = self.two(round);
         let (mut book, mut sheet) = (self.fresh.book.clone(), self.fresh.sheet.clone());
         timed(times, || self.library().merge(&first.book, &second.book, &mut book, &mut sheet)).expect("two books that fit together");
-        tree_words(&book).to_vec()
+        book
     }
 
-    /// The same two books written, and each stream loaded into a fresh holding of its own; gives the words of both trees.
-    pub fn write_and_load_both(&self, round: usize, times: &mut Times) -> Vec<u32> {
+    /// The same two books written, and each stream loaded into a fresh holding of its own; gives the words of both books.
+    pub fn write_and_load_both(&self, round: usize, times: &mut Times) -> [Vec<u32>; 2] {
         let (mut holdings, mut out) = ([self.fresh.clone(), self.fresh.clone()], vec![u8::MAX; STREAM_BYTES]);
         timed(times, || {
             for (from, to) in self.two(round).into_iter().zip(&mut holdings) {
@@ -187,7 +197,7 @@ impl Side {
                 self.library().load(&mut to.book, &mut to.sheet, &out[..length]).expect("a good stream");
             }
         });
-        holdings.iter().flat_map(|holding| tree_words(&holding.book).to_vec()).collect()
+        holdings.map(|holding| holding.book)
     }
 
     /// Timings imported one behind the other into a stream, whose bytes it gives; refused ones are left out. The output is filled outside
@@ -229,7 +239,7 @@ fn timings(round: usize, floats: fn(&mut Random) -> (u32, u32)) -> Vec<Import> {
 impl Choice {
     /// Two lists between the first pair of states that has a way and is not one and the same state, each nearly as long as Choose looks at.
     fn on(holding: &Holding) -> Choice {
-        let (flat, mut random) = (Flat::of(&holding.book), Random::new(6));
+        let (flat, mut random) = (Flat::of(&book::encode(&holding.tree)), Random::new(6));
         let fits = |&(from, to): &(u32, u32)| from != to && flat.search(from as usize, to as usize).is_some();
         let pair = holding.pairs(ROUNDS).into_iter().find(fits).expect("a way");
         let moves = moves_before(&flat, pair.1 as usize);

@@ -11,6 +11,10 @@ pub fn node_at(n: usize) -> usize {
     129 + 18 * n
 }
 
+pub fn hold_at(n: usize) -> usize {
+    4737 + n
+}
+
 pub fn encode(tree: &Tree) -> Vec<u32> {
     let number = |n: Option<usize>| n.map_or(ABSENT, |n| n as u32);
     let mut words = vec![tree.root as u32];
@@ -26,6 +30,7 @@ pub fn encode(tree: &Tree) -> Vec<u32> {
             words.push(transition.map_or(BLANK, |t| t.target as u32 * 65536 + t.cost));
         }
     }
+    words.extend(tree.nodes.iter().map(|node| node.as_ref().is_some_and(|n| n.on_hold) as u32));
     words
 }
 
@@ -70,9 +75,10 @@ fn read_node(words: &[u32], n: usize) -> Option<Option<Node>> {
     for x in 0..COMMANDS {
         transitions[x] = read_transition(words[at + 2 + x])?;
     }
+    let on_hold = read_hold(words[hold_at(n)])?;
     match number_or_absent(words[at], MACHINES)? {
-        None => (below.is_none() && transitions.iter().all(Option::is_none)).then_some(None),
-        Some(owner) => Some(Some(Node { owner, below, transitions })),
+        None => (below.is_none() && transitions.iter().all(Option::is_none) && !on_hold).then_some(None),
+        Some(owner) => Some(Some(Node { owner, below, transitions, on_hold })),
     }
 }
 
@@ -82,6 +88,10 @@ fn read_transition(word: u32) -> Option<Option<Transition>> {
     }
     let target = below(word / 65536, NODES)?;
     Some(Some(Transition { target, cost: word % 65536 }))
+}
+
+fn read_hold(word: u32) -> Option<bool> {
+    below(word, 2).map(|hold| hold == 1)
 }
 
 fn well_formed(tree: &Tree) -> bool {
@@ -95,14 +105,14 @@ fn owned_by(tree: &Tree, n: usize, m: usize) -> bool {
     tree.nodes[n].as_ref().is_some_and(|node| node.owner == m)
 }
 
-/// The start belongs to the machine, and the root alone has no holder; another's holder names it.
+/// The start belongs to the machine and is not held, and the root alone has no holder; another's holder names it.
 fn machine_fits(tree: &Tree, m: usize) -> bool {
     let Some(machine) = &tree.machines[m] else { return true };
-    let held = match machine.holder {
+    let placed = match machine.holder {
         None => m == tree.root,
         Some(n) => m != tree.root && tree.nodes[n].as_ref().is_some_and(|node| node.below == Some(m)),
     };
-    held && owned_by(tree, machine.start, m)
+    placed && owned_by(tree, machine.start, m) && !tree.node(machine.start).on_hold
 }
 
 /// The owner is in use, the machine below names the node, and all targets are in the same machine.

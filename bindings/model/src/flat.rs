@@ -1,6 +1,6 @@
 //! The yardstick: a tree flattened to its states, and a binary-heap Dijkstra search over them. It trusts its book.
 
-use crate::book::{machine_at, node_at};
+use crate::book::{hold_at, machine_at, node_at};
 use crate::{ABSENT, BLANK, COMMANDS, NODES};
 use std::cmp::Reverse;
 use std::collections::BinaryHeap;
@@ -21,9 +21,10 @@ pub struct Way {
 }
 
 impl Flat {
-    /// Flattens a well-formed book, each node once: first what entering it leads to, then the transition that each command uses.
+    /// Flattens a well-formed book, each node once: first what entering it leads to, `ABSENT` where it is held and transitions into it are
+    /// shut; then the transition that each command uses.
     pub fn of(book: &[u32]) -> Flat {
-        let entered: Vec<u32> = (0..NODES).map(|n| enter(book, n)).collect();
+        let entered: Vec<u32> = (0..NODES).map(|n| if on_hold(book, n) { ABSENT } else { enter(book, n) }).collect();
         let mut flat = Flat { moves: vec![[BLANK; COMMANDS]; NODES] };
         let mut done = [false; NODES];
         for n in 0..NODES {
@@ -32,7 +33,7 @@ impl Flat {
         flat
     }
 
-    /// A node's own transitions, and for the other commands those of the node that holds its machine.
+    /// A node's own transitions that count, and for the other commands those of the node that holds its machine.
     fn resolve(&mut self, book: &[u32], entered: &[u32], done: &mut [bool; NODES], n: usize) {
         let owner = book[node_at(n)];
         if done[n] || owner == ABSENT {
@@ -45,14 +46,14 @@ impl Flat {
         }
         for x in 0..COMMANDS {
             let word = book[node_at(n) + 2 + x];
-            if word != BLANK {
+            if word != BLANK && entered[(word >> 16) as usize] != ABSENT {
                 self.moves[n][x] = entered[(word >> 16) as usize] << 16 | word & 0xffff;
             }
         }
         done[n] = true;
     }
 
-    /// The same for states, by the text of document 01 alone: each state and command climbs and enters by itself.
+    /// The same for states, by the text of documents 01 and 02 alone: each state and command climbs and enters by itself.
     pub fn step_by_step(book: &[u32]) -> Flat {
         let mut flat = Flat { moves: vec![[BLANK; COMMANDS]; NODES] };
         for n in (0..NODES).filter(|&n| book[node_at(n)] != ABSENT && book[node_at(n) + 1] == ABSENT) {
@@ -117,14 +118,21 @@ impl Flat {
     }
 }
 
-/// The transition that a command uses at a state, `BLANK` where it finds none.
+fn on_hold(book: &[u32], node: usize) -> bool {
+    book[hold_at(node)] == 1
+}
+
+/// The transition that a command uses at a state, `BLANK` where it finds none that counts.
 fn climb(book: &[u32], state: usize, command: usize) -> u32 {
     let mut n = state;
     loop {
         let word = book[node_at(n) + 2 + command];
-        let holder = book[machine_at(book[node_at(n)] as usize)];
-        if word != BLANK || holder == ABSENT {
+        if word != BLANK && !on_hold(book, (word >> 16) as usize) {
             return word;
+        }
+        let holder = book[machine_at(book[node_at(n)] as usize)];
+        if holder == ABSENT {
+            return BLANK;
         }
         n = holder as usize;
     }

@@ -1,4 +1,4 @@
-//! Merging two trees below a new root: document 02, W-201.
+//! Merging two trees below a new root, with their holds: document 02, W-201 and W-205.
 
 use crate::tree::{Machine, Node, Transition, Tree};
 use std::collections::BTreeMap;
@@ -34,6 +34,7 @@ impl Numbers {
             owner: self.machines[&old.owner],
             below: old.below.map(|m| self.machines[&m]),
             transitions: old.transitions.map(|t| t.map(|t| Transition { target: self.nodes[&t.target], ..t })),
+            on_hold: old.on_hold,
         }
     }
 }
@@ -59,13 +60,13 @@ pub fn merge(first: &Tree, second: &Tree) -> Option<Tree> {
         tree.nodes[new] = Some(numbers.node(second.node(old)));
     }
     tree.machines[tree.root] = Some(Machine { holder: None, start: numbers.start });
-    hold(&mut tree, numbers.start, first.root);
-    hold(&mut tree, numbers.other, numbers.machines[&second.root]);
+    put_over(&mut tree, numbers.start, first.root);
+    put_over(&mut tree, numbers.other, numbers.machines[&second.root]);
     Some(tree)
 }
 
 /// A new node of the root that holds a machine.
-fn hold(tree: &mut Tree, node: usize, machine: usize) {
+fn put_over(tree: &mut Tree, node: usize, machine: usize) {
     tree.nodes[node] = Some(Node { below: Some(machine), ..Node::plain(tree.root) });
     tree.machines[machine].as_mut().expect("a machine in use").holder = Some(node);
 }

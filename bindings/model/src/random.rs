@@ -60,7 +60,7 @@ pub enum Costs {
 }
 
 /// What a random book is like. `filled` is the share of node and command pairs that have a transition, in percent; `loops` is the share
-/// of transitions that lead to their own node.
+/// of transitions that lead to their own node; `holds` is the share of nodes that are held, start nodes left out.
 #[derive(Clone, Copy, Debug)]
 pub struct Shape {
     pub growth: Growth,
@@ -70,12 +70,20 @@ pub struct Shape {
     pub filled: usize,
     pub loops: usize,
     pub costs: Costs,
+    pub holds: usize,
 }
 
 impl Shape {
-    /// The largest book: every machine, node and command in use, every transition there.
+    /// The largest book without holds: every machine, node and command in use, every transition there.
     pub fn full() -> Shape {
-        Shape { growth: Growth::Any, machines: MACHINES, nodes: NODES, commands: COMMANDS, filled: 100, loops: 5, costs: Costs::Any }
+        let (growth, costs) = (Growth::Any, Costs::Any);
+        Shape { growth, machines: MACHINES, nodes: NODES, commands: COMMANDS, filled: 100, loops: 5, costs, holds: 0 }
+    }
+
+    /// The book with the longest stream: one machine, with every node and transition, and all nodes but its start held. Each machine more
+    /// makes the stream two bytes shorter.
+    pub fn longest() -> Shape {
+        Shape { machines: 1, holds: 100, ..Shape::full() }
     }
 
     /// A shape chosen at random.
@@ -92,6 +100,7 @@ impl Shape {
             filled: random.pick(&[10, 30, 60, 90]),
             loops: random.pick(&[0, 10, 50]),
             costs: random.pick(&[Costs::Zero, Costs::Few, Costs::Few, Costs::Any, Costs::Largest]),
+            holds: random.pick(&[0, 0, 10, 30]),
         }
     }
 }
@@ -119,8 +128,11 @@ pub fn book(random: &mut Random, shape: &Shape) -> Vec<Command> {
         station.apply(&command);
         all.push(command);
     }
-    all.extend(starts(random, &station.tree));
+    let starts = starts(random, &station.tree);
+    starts.iter().for_each(|command| station.apply(command));
+    all.extend(starts);
     all.extend(arrows(random, shape, &station.tree));
+    all.extend(holds(random, shape, &station.tree));
     all
 }
 
@@ -188,6 +200,12 @@ fn arrows(random: &mut Random, shape: &Shape, tree: &Tree) -> Vec<Command> {
     all
 }
 
+/// Holds of some nodes, plain and refined; start nodes cannot be held.
+fn holds(random: &mut Random, shape: &Shape, tree: &Tree) -> Vec<Command> {
+    let nodes = (0..NODES).filter(|&n| tree.nodes[n].is_some() && !tree.is_start(n));
+    nodes.filter(|_| random.chance(shape.holds)).map(|node| Command::Hold { node, hold: 1 }).collect()
+}
+
 fn cost(random: &mut Random, costs: Costs) -> usize {
     match costs {
         Costs::Zero => 0,
@@ -206,7 +224,7 @@ pub fn bytes(commands: &[Command]) -> Vec<u8> {
 pub fn edit(random: &mut Random, tree: &Tree) -> Command {
     let node = some_node(random, tree);
     let machine = some_machine(random, tree);
-    match random.below(40) {
+    match random.below(46) {
         0 => Command::Begin { machine: new_machine(random, tree), start: new_node(random, tree) },
         1..=6 => Command::Add { machine, node: new_node(random, tree) },
         7..=12 => Command::Refine { node, machine: new_machine(random, tree), start: new_node(random, tree) },
@@ -217,6 +235,7 @@ pub fn edit(random: &mut Random, tree: &Tree) -> Command {
         30..=32 => Command::Clear { node, command: some_command(random) },
         33..=35 => Command::Start { node },
         36..=37 => Command::Crown { machine: new_machine(random, tree), node: new_node(random, tree) },
+        38..=43 => Command::Hold { node, hold: some_hold(random) },
         _ => Command::Refresh,
     }
 }
@@ -263,6 +282,14 @@ fn some_command(random: &mut Random) -> usize {
         random.below(256)
     } else {
         random.below(COMMANDS)
+    }
+}
+
+fn some_hold(random: &mut Random) -> usize {
+    if random.chance(5) {
+        random.below(256)
+    } else {
+        random.below(2)
     }
 }
 

@@ -40,7 +40,7 @@ pub fn stale(tree: &Tree) -> Vec<u32> {
 }
 
 /// The exit costs of a machine: least costs from its start state to each state inside it, then the least over the states where a
-/// command finds no transition inside.
+/// command finds no transition inside that counts.
 pub fn exits(tree: &Tree, m: usize) -> Exits {
     let mut costs = vec![None; NODES];
     let mut open = vec![tree.enter(tree.machine(m).start)];
@@ -82,12 +82,12 @@ pub fn node_exit(tree: &Tree, exits: &[Exits], n: usize, x: usize) -> Option<u32
     tree.node(n).below.map_or(Some(0), |m| exits[m][x])
 }
 
-/// The moves of a machine: from, command, to, and what the move costs.
+/// The moves of a machine, by the transitions that count: from, command, to, and what the move costs.
 pub fn moves(tree: &Tree, exits: &[Exits], m: usize) -> Vec<(usize, usize, usize, u32)> {
     let mut all = vec![];
     for u in tree.nodes_of(m) {
         for x in 0..COMMANDS {
-            if let (Some(t), Some(e)) = (tree.node(u).transitions[x], node_exit(tree, exits, u, x)) {
+            if let (Some(t), Some(e)) = (tree.counting(u, x), node_exit(tree, exits, u, x)) {
                 all.push((u, x, t.target, e + t.cost));
             }
         }
@@ -168,7 +168,7 @@ fn exit_is_true(tree: &Tree, exits: &[Exits], costs: &[Option<u32>], words: &[u3
 fn attains(tree: &Tree, exits: &[Exits], costs: &[Option<u32>], m: usize, x: usize, last: usize, cost: u32) -> bool {
     let Some(node) = &tree.nodes[last] else { return false };
     let sum = costs[last].zip(node_exit(tree, exits, last, x)).map(|(c, e)| c + e);
-    node.owner == m && node.transitions[x].is_none() && sum == Some(cost)
+    node.owner == m && tree.counting(last, x).is_none() && sum == Some(cost)
 }
 
 fn node_is_true(tree: &Tree, exits: &[Exits], costs: &[Option<u32>], words: &[u32], n: usize) -> bool {
@@ -188,10 +188,9 @@ fn node_is_true(tree: &Tree, exits: &[Exits], costs: &[Option<u32>], words: &[u3
     }
 }
 
-/// Whether a name is an arrow of the same machine into the node that gives exactly its cost.
+/// Whether a name is a transition of the same machine into the node that counts and gives exactly its cost.
 pub fn gives(tree: &Tree, exits: &[Exits], costs: &[Option<u32>], n: usize, (u, x): Name) -> bool {
-    let Some(node) = &tree.nodes[u] else { return false };
-    let Some(t) = node.transitions[x] else { return false };
+    let Some(t) = tree.nodes[u].as_ref().and_then(|_| tree.counting(u, x)) else { return false };
     let sum = costs[u].zip(node_exit(tree, exits, u, x)).map(|(c, e)| c + e + t.cost);
     t.target == n && sum.is_some() && sum == costs[n]
 }

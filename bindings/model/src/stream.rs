@@ -14,6 +14,7 @@ pub enum Command {
     Start { node: usize },
     Crown { machine: usize, node: usize },
     Refresh,
+    Hold { node: usize, hold: usize },
 }
 
 /// How a machine's rows stand after some commands: stale and blank, as they were before, or filled by a refresh.
@@ -46,7 +47,7 @@ fn widths(opcode: u8) -> Option<&'static [usize]> {
         0x12 => Some(&[2, 1, 2]),
         0x13 | 0x16 => Some(&[2]),
         0x14 => Some(&[2, 1, 2, 2]),
-        0x15 => Some(&[2, 1]),
+        0x15 | 0x1a => Some(&[2, 1]),
         0x18 => Some(&[]),
         _ => None,
     }
@@ -63,6 +64,7 @@ impl Command {
             0x15 => Command::Clear { node: o[0], command: o[1] },
             0x16 => Command::Start { node: o[0] },
             0x17 => Command::Crown { machine: o[0], node: o[1] },
+            0x1a => Command::Hold { node: o[0], hold: o[1] },
             _ => Command::Refresh,
         }
     }
@@ -78,6 +80,7 @@ impl Command {
             Command::Start { node } => (0x16, vec![node]),
             Command::Crown { machine, node } => (0x17, vec![machine, node]),
             Command::Refresh => (0x18, vec![]),
+            Command::Hold { node, hold } => (0x1a, vec![node, hold]),
         }
     }
 
@@ -107,22 +110,23 @@ impl Command {
         Ok((Command::of(bytes[0], &operands), length))
     }
 
-    /// The machines, nodes and commands that it names, for refusal 6.
+    /// Whether each number that it names is under its limit, for refusal 6.
     fn in_range(&self) -> bool {
-        let (machines, nodes, commands): (Vec<usize>, Vec<usize>, Vec<usize>) = match *self {
+        let numbers = match *self {
             Command::Begin { machine, start: node } | Command::Add { machine, node } | Command::Crown { machine, node } => {
-                (vec![machine], vec![node], vec![])
+                vec![(machine, MACHINES), (node, NODES)]
             }
-            Command::Refine { node, machine, start } => (vec![machine], vec![node, start], vec![]),
-            Command::Remove { node } | Command::Start { node } => (vec![], vec![node], vec![]),
-            Command::Arrow { node, command, target, .. } => (vec![], vec![node, target], vec![command]),
-            Command::Clear { node, command } => (vec![], vec![node], vec![command]),
-            Command::Refresh => (vec![], vec![], vec![]),
+            Command::Refine { node, machine, start } => vec![(node, NODES), (machine, MACHINES), (start, NODES)],
+            Command::Remove { node } | Command::Start { node } => vec![(node, NODES)],
+            Command::Arrow { node, command, target, .. } => vec![(node, NODES), (command, COMMANDS), (target, NODES)],
+            Command::Clear { node, command } => vec![(node, NODES), (command, COMMANDS)],
+            Command::Refresh => vec![],
+            Command::Hold { node, hold } => vec![(node, NODES), (hold, 2)],
         };
-        machines.iter().all(|&m| m < MACHINES) && nodes.iter().all(|&n| n < NODES) && commands.iter().all(|&x| x < COMMANDS)
+        numbers.iter().all(|&(number, limit)| number < limit)
     }
 
-    /// The refusal 6 to 12 of the command on a tree, or 0.
+    /// The refusal 6 to 12 or 21 of the command on a tree, or 0.
     pub fn refusal(&self, tree: &Tree) -> u32 {
         if !self.in_range() {
             return 6;
@@ -141,7 +145,9 @@ impl Command {
             Command::Arrow { node, target, .. } if node_used(node) && node_used(target) => {
                 first(&[(11, tree.node(node).owner != tree.node(target).owner)])
             }
-            Command::Clear { node, .. } | Command::Start { node } if node_used(node) => 0,
+            Command::Clear { node, .. } if node_used(node) => 0,
+            Command::Start { node } if node_used(node) => first(&[(21, tree.node(node).on_hold)]),
+            Command::Hold { node, hold } if node_used(node) => first(&[(21, hold == 1 && tree.is_start(node))]),
             Command::Crown { machine, node } => first(&[(8, machine_used(machine) || node_used(node)), (12, tree.is_deep())]),
             _ => 7,
         }
@@ -206,6 +212,7 @@ impl Station {
             Command::Start { node } => self.start(node),
             Command::Crown { machine, node } => self.crown(machine, node),
             Command::Refresh => self.refresh(),
+            Command::Hold { node, hold } => self.hold(node, hold == 1),
         }
     }
 
@@ -218,6 +225,11 @@ impl Station {
 
     fn set(&mut self, node: usize, command: usize, transition: Option<Transition>) {
         self.tree.node_mut(node).transitions[command] = transition;
+        self.touch(self.tree.node(node).owner);
+    }
+
+    fn hold(&mut self, node: usize, on_hold: bool) {
+        self.tree.node_mut(node).on_hold = on_hold;
         self.touch(self.tree.node(node).owner);
     }
 
@@ -249,7 +261,7 @@ impl Station {
         }
     }
 
-    /// Deletes a node, all below it and the transitions into it.
+    /// Deletes a node, all below it, their holds and the transitions into it.
     fn remove(&mut self, node: usize) {
         if let Some(m) = self.tree.node(node).below {
             for n in self.tree.nodes_of(m) {

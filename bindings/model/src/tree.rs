@@ -13,6 +13,8 @@ pub struct Node {
     pub owner: usize,
     pub below: Option<usize>,
     pub transitions: [Option<Transition>; COMMANDS],
+    /// Whether it is held (document 02, W-205): transitions into it are shut.
+    pub on_hold: bool,
 }
 
 #[derive(Clone, Debug, PartialEq, Eq)]
@@ -39,7 +41,7 @@ pub struct Tree {
 
 impl Node {
     pub fn plain(owner: usize) -> Node {
-        Node { owner, below: None, transitions: [None; COMMANDS] }
+        Node { owner, below: None, transitions: [None; COMMANDS], on_hold: false }
     }
 }
 
@@ -98,6 +100,11 @@ impl Tree {
         (0..NODES).filter(|&n| self.nodes[n].as_ref().is_some_and(|node| node.owner == m)).collect()
     }
 
+    /// The nodes that are held, rising.
+    pub fn nodes_on_hold(&self) -> Vec<usize> {
+        (0..NODES).filter(|&n| self.nodes[n].as_ref().is_some_and(|node| node.on_hold)).collect()
+    }
+
     /// The node that holds the machine of a node.
     pub fn up(&self, n: usize) -> Option<usize> {
         self.machine(self.node(n).owner).holder
@@ -140,8 +147,13 @@ impl Tree {
         n
     }
 
-    /// What a command does at a state: the lowest node that has a transition for it acts, the state itself first and then the nodes that
-    /// hold it; `None` where the station stops.
+    /// The transition of a node that counts for a command: one into a held node is shut, and counts as absent.
+    pub fn counting(&self, n: usize, command: usize) -> Option<Transition> {
+        self.node(n).transitions[command].filter(|t| !self.node(t.target).on_hold)
+    }
+
+    /// What a command does at a state: the lowest node that has a transition which counts for it acts, the state itself first and then the
+    /// nodes that hold it; `None` where the station stops.
     pub fn step(&self, state: usize, command: usize) -> Option<Moved> {
         self.step_inside(self.root, state, command)
     }
@@ -150,7 +162,7 @@ impl Tree {
     pub fn step_inside(&self, top: usize, state: usize, command: usize) -> Option<Moved> {
         let mut n = state;
         loop {
-            if let Some(t) = self.node(n).transitions[command] {
+            if let Some(t) = self.counting(n, command) {
                 return Some(Moved { state: self.enter(t.target), cost: t.cost, node: n });
             }
             if self.node(n).owner == top {

@@ -4,7 +4,8 @@ use crate::stream::Command;
 use crate::tree::Tree;
 use crate::{COMMANDS, LEVELS, NODES};
 
-/// Begin; for each level first add, then refine, both by rising node; last all transitions by node, then command.
+/// Begin; for each level first add, then refine, both by rising node; then all transitions by node, then command; last the holds of 1 by
+/// node (document 02, W-205).
 pub fn stream(tree: &Tree) -> Vec<u8> {
     let mut all = vec![Command::Begin { machine: tree.root, start: tree.machine(tree.root).start }];
     for level in 1..=LEVELS {
@@ -13,6 +14,7 @@ pub fn stream(tree: &Tree) -> Vec<u8> {
         all.extend(nodes.iter().filter_map(|&n| refine(tree, n)));
     }
     all.extend((0..NODES).flat_map(|n| arrows(tree, n)));
+    all.extend(tree.nodes_on_hold().into_iter().map(|node| Command::Hold { node, hold: 1 }));
     all.iter().flat_map(Command::bytes).collect()
 }
 

@@ -26,11 +26,12 @@ pub enum Refusal {
     NeitherArrives = 18,
     TooFewNumbers = 19,
     BadTiming = 20,
+    HeldStart = 21,
 }
 
 impl Refusal {
     /// Every refusal, the one with number k at place k - 1.
-    pub const ALL: [Refusal; 20] = [
+    pub const ALL: [Refusal; 21] = [
         Refusal::WrongLength,
         Refusal::TornBook,
         Refusal::FalseSheet,
@@ -51,9 +52,10 @@ impl Refusal {
         Refusal::NeitherArrives,
         Refusal::TooFewNumbers,
         Refusal::BadTiming,
+        Refusal::HeldStart,
     ];
 
-    /// The refusal of a number 1 to 20.
+    /// The refusal of a number 1 to 21.
     pub fn of(number: u32) -> Option<Refusal> {
         Refusal::ALL.get((number as usize).wrapping_sub(1)).copied()
     }
@@ -63,12 +65,12 @@ impl Refusal {
         self as u32
     }
 
-    /// What a call returned: 0 is no refusal. The library returns no number over 20.
+    /// What a call returned: 0 is no refusal. The library returns no number over 21.
     pub(crate) fn check(number: u32) -> Result<(), Refusal> {
         if number == 0 {
             return Ok(());
         }
-        Err(Refusal::of(number).expect("a refusal's number is 1 to 20"))
+        Err(Refusal::of(number).expect("a refusal's number is 1 to 21"))
     }
 
     fn meaning(self) -> &'static str {
@@ -78,7 +80,7 @@ impl Refusal {
             Refusal::FalseSheet => "the sheet is not true of the book",
             Refusal::CutShort => "the stream ends inside a command",
             Refusal::UnknownOpcode => "a byte that is no opcode",
-            Refusal::OutOfRange => "a machine, node or command out of range",
+            Refusal::OutOfRange => "a machine, node, command or hold out of range",
             Refusal::NotInUse => "a machine or node that is not in use",
             Refusal::InUse => "a new machine or node that is in use already",
             Refusal::AlreadyRefined => "the node is refined already",
@@ -93,6 +95,7 @@ impl Refusal {
             Refusal::NeitherArrives => "neither list arrives",
             Refusal::TooFewNumbers => "the first book has too few unused numbers",
             Refusal::BadTiming => "the timing gives no cost from 0 to 65,535",
+            Refusal::HeldStart => "a start node cannot be held, nor a held node become one",
         }
     }
 }

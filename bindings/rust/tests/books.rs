@@ -84,8 +84,8 @@ fn chains_of_eight_levels() {
         let mut random = Random::new(9000 + seed);
         let costs = random.pick(&[Costs::Zero, Costs::Few, Costs::Any, Costs::Largest]);
         let (filled, loops) = (random.pick(&[5, 12, 25]), random.pick(&[0, 40]));
-        let growth = random.pick(&[Growth::Chain, Growth::EvenChain]);
-        let shape = Shape { growth, machines: 8, nodes: 48 + random.below(200), commands: COMMANDS, filled, loops, costs };
+        let (growth, holds) = (random.pick(&[Growth::Chain, Growth::EvenChain]), random.pick(&[0, 10]));
+        let shape = Shape { growth, machines: 8, nodes: 48 + random.below(200), commands: COMMANDS, filled, loops, costs, holds };
         compare(&Holding::random(&mut random, &shape), &mut random, 25);
     }
 }
@@ -95,7 +95,8 @@ fn wide_machines() {
     for seed in 0..8 {
         let mut random = Random::new(9500 + seed);
         let (machines, costs) = (random.pick(&[1, 2, 64]), random.pick(&[Costs::Zero, Costs::Few, Costs::Any]));
-        let shape = Shape { growth: Growth::Wide, machines, nodes: 256, commands: 2, filled: 70, loops: 10, costs };
+        let holds = random.pick(&[0, 10]);
+        let shape = Shape { growth: Growth::Wide, machines, nodes: 256, commands: 2, filled: 70, loops: 10, costs, holds };
         compare(&Holding::random(&mut random, &shape), &mut random, 25);
     }
 }
@@ -113,12 +114,20 @@ fn full_books() {
     }
 }
 
-/// The one longest stream: every machine, node, command and transition.
+/// The longest stream: one machine with every node, command and transition, and every hold that may be. Each machine more takes the hold of
+/// its start away, 4 bytes, and refines where a node was added, which is 2 more; without holds the longest has every machine.
 #[test]
 fn the_longest_stream() {
-    let holding = Holding::random(&mut Random::new(1), &Shape::full());
-    let mut out = vec![0; himm::STREAM_BYTES];
-    assert_eq!(himm::write(&holding.book, &mut out).map(|stream| stream.len()), Ok(himm::STREAM_BYTES));
+    let length = |shape: Shape| {
+        let holding = Holding::random(&mut Random::new(1), &shape);
+        holding.compare_write(&holding.view());
+        himm::write(&holding.book, &mut vec![0; himm::STREAM_BYTES]).map(|stream| stream.len())
+    };
+    assert_eq!(length(Shape::longest()), Ok(himm::STREAM_BYTES));
+    for machines in [2, 3, 8, 63, 64] {
+        assert_eq!(length(Shape { machines, ..Shape::longest() }), Ok(himm::STREAM_BYTES + 2 - 2 * machines), "{machines} machines");
+    }
+    assert_eq!(length(Shape::full()), Ok(33_918));
 }
 
 /// The longest and dearest plan: one machine of 256 nodes in a row, each transition at the largest cost.
@@ -149,17 +158,18 @@ fn other_true_sheets() {
     }
 }
 
-/// The flat search that plans are compared with moves as the tree does.
+/// The flat search that plans are compared with moves as the tree does, flattened in either way.
 #[test]
 fn flat_moves() {
     for seed in 0..100 {
         let mut random = Random::new(3000 + seed);
         let shape = Shape::random(&mut random);
         let holding = Holding::random(&mut random, &shape);
-        let (tree, flat) = (holding.tree(), Flat::of(&holding.book));
+        let (tree, flat, slow) = (holding.tree(), Flat::of(&holding.book), Flat::step_by_step(&holding.book));
         for s in tree.states() {
             for x in 0..COMMANDS {
-                assert_eq!(flat.step(s, x), tree.step(s, x).map(|to| (to.state, to.cost)));
+                let moved = tree.step(s, x).map(|to| (to.state, to.cost));
+                assert_eq!((flat.step(s, x), slow.step(s, x)), (moved, moved));
             }
         }
     }

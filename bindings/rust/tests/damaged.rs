@@ -2,7 +2,7 @@
 
 mod common;
 
-use common::damage::{copy_a_field, hold, words};
+use common::damage::{copy_a_field, put_over, words};
 use common::{Holding, View};
 use himm_model::book::{machine_at, node_at};
 use himm_model::random::{Costs, Random, Shape};
@@ -30,7 +30,7 @@ fn random_holding(random: &mut Random) -> Holding {
 fn wrong_lengths() {
     let mut random = Random::new(1);
     let good = random_holding(&mut random);
-    for book in [0, 1, BOOK_WORDS - 1, BOOK_WORDS, BOOK_WORDS + 1, 10_000] {
+    for book in [0, 1, BOOK_WORDS - NODES, BOOK_WORDS - 1, BOOK_WORDS, BOOK_WORDS + 1, 10_000] {
         for sheet in [0, 1, SHEET_WORDS - 1, SHEET_WORDS, SHEET_WORDS + 1, 10_000] {
             let mut holding = good.clone();
             holding.book.resize(book, 65535);
@@ -97,7 +97,7 @@ fn rings_and_deep_chains() {
     for length in 1..20 {
         let mut holding = chain.clone();
         for k in 0..length {
-            hold(&mut holding.book, 20 + k, 20 + (k + 1) % length);
+            put_over(&mut holding.book, 20 + k, 20 + (k + 1) % length);
         }
         assert_eq!(holding.view().book.err(), Some(2));
         compare(&holding, &holding.view(), &mut random);

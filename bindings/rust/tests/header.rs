@@ -1,6 +1,7 @@
 //! The numbers and calls of the bindings are those of the header.
 
 use himm::Refusal;
+use himm_model::stream::Command;
 
 const HEADER: &str = include_str!("../../../include/himm.h");
 const RAW: &str = include_str!("../src/raw.rs");
@@ -36,12 +37,36 @@ fn limits_and_sizes() {
         ("HIMM_IMPORT_BYTES", himm::IMPORT_BYTES),
         ("HIMM_LIST_COMMANDS", himm::LIST_COMMANDS),
         ("HIMM_REFRESH", himm::REFRESH as usize),
+        ("HIMM_HOLD", himm::HOLD as usize),
         ("HIMM_SECONDS_TAKEN", himm::raw::HIMM_SECONDS_TAKEN as usize),
         ("HIMM_SECONDS_WAITED", himm::raw::HIMM_SECONDS_WAITED as usize),
     ];
     for (name, value) in numbers {
         assert_eq!(value, defined(name), "{name}");
     }
+}
+
+/// Every opcode is the model's, and the header has no others.
+#[test]
+fn opcodes() {
+    let [machine, node, start, command, target, cost, hold] = [0; 7];
+    let all = [
+        ("HIMM_BEGIN", Command::Begin { machine, start }),
+        ("HIMM_ADD", Command::Add { machine, node }),
+        ("HIMM_REFINE", Command::Refine { node, machine, start }),
+        ("HIMM_REMOVE", Command::Remove { node }),
+        ("HIMM_ARROW", Command::Arrow { node, command, target, cost }),
+        ("HIMM_CLEAR", Command::Clear { node, command }),
+        ("HIMM_START", Command::Start { node }),
+        ("HIMM_CROWN", Command::Crown { machine, node }),
+        ("HIMM_REFRESH", Command::Refresh),
+        ("HIMM_HOLD", Command::Hold { node, hold }),
+    ];
+    for (name, command) in all {
+        assert_eq!(command.bytes()[0] as usize, defined(name), "{name}");
+    }
+    let in_hexadecimal = |line: &&str| line.starts_with("#define ") && line.contains(" 0x");
+    assert_eq!(HEADER.lines().filter(in_hexadecimal).count(), all.len());
 }
 
 /// The header's name of a refusal.

@@ -305,19 +305,23 @@ fn load_refusal(lent: &Import, tree: &Tree) -> u32 {
     }
 }
 
-/// The node's own transition after a load that was done, in the book's words and in a step at the node, where it is a state.
+/// The node's own transition after a load that was done, in the book's words and in a step at the node, where it is a state. The step is
+/// not by this transition where it was waited for or is shut by a hold.
 fn judge_transition(holding: &Holding, lent: &Import, bytes: &[u8]) {
     let (tree, node) = (holding.tree(), lent.node as usize);
     let word = holding.book[node_at(node) + 2 + lent.command as usize];
     let moved = himm::step(&holding.book, lent.node, lent.command);
-    if lent.kind == HIMM_SECONDS_WAITED {
-        assert_eq!(word, BLANK, "{lent:x?}");
+    let waited = lent.kind == HIMM_SECONDS_WAITED;
+    if waited || tree.node(lent.target as usize).on_hold {
         assert!(moved.map_or(true, |moved| moved.node != lent.node), "{lent:x?}");
+    }
+    if waited {
+        assert_eq!(word, BLANK, "{lent:x?}");
         return;
     }
     let cost = bytes[6] as u32 * 256 + bytes[7] as u32;
     assert_eq!((word / 65536, word % 65536), (lent.target, cost), "{lent:x?}");
-    if tree.is_state(node) {
+    if tree.is_state(node) && !tree.node(lent.target as usize).on_hold {
         let state = tree.enter(lent.target as usize) as u32;
         assert_eq!(moved, Ok(Moved { state, cost, node: lent.node }), "{lent:x?}");
     }

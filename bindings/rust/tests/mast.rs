@@ -2,17 +2,8 @@
 
 mod common;
 
-use common::{hex, Holding, MAST};
+use common::{hex, mast, plan, Holding, MAST};
 use himm::{Moved, Refusal};
-
-fn mast(more: &str) -> Holding {
-    Holding::loaded(&hex(&(MAST.to_string() + more)))
-}
-
-fn plan(holding: &Holding, from: u32, to: u32) -> Result<(u32, Vec<u8>), Refusal> {
-    let mut buffer = [0; himm::PLAN_BYTES];
-    himm::plan(&holding.book, &holding.sheet, from, to, &mut buffer).map(|plan| (plan.cost, plan.commands.to_vec()))
-}
 
 #[test]
 fn plans() {
@@ -108,5 +99,5 @@ fn refusals_by_number() {
         assert_eq!(refusal.number() as usize, at + 1);
         assert_eq!(Refusal::of(refusal.number()), Some(*refusal));
     }
-    assert_eq!((Refusal::of(0), Refusal::of(21)), (None, None));
+    assert_eq!((Refusal::of(0), Refusal::of(22)), (None, None));
 }

@@ -2,7 +2,7 @@
 
 mod common;
 
-use common::damage::{copy_a_field, hold, words};
+use common::damage::{copy_a_field, put_over, words};
 use common::{counts, hex, Holding, MAST};
 use himm::{Moved, Refusal};
 use himm_model::book::{decode, encode, machine_at, node_at};
@@ -315,7 +315,7 @@ fn nearly_full_pairs() {
         let growth = random.pick(&[Growth::Any, Growth::Wide]);
         let (machines, all_machines) = (2 + random.below(60), 62 + random.below(3));
         let (nodes, all_nodes) = (machines + random.below(128), 253 + random.below(3));
-        let shape = Shape { growth, machines, nodes, filled: random.pick(&[10, 60, 100]), ..Shape::full() };
+        let shape = Shape { growth, machines, nodes, filled: random.pick(&[10, 60, 100]), holds: random.pick(&[0, 20]), ..Shape::full() };
         let rest = Shape { machines: all_machines - machines, nodes: all_nodes - nodes, ..shape };
         answers.push(compare_pair(&mut random, [shape, rest]));
     }
@@ -329,7 +329,7 @@ fn pairs_of_chains() {
     for seed in 0..40 {
         let mut random = Random::new(42_000 + seed);
         let shape = Shape { growth: Growth::EvenChain, nodes: 100, filled: 30, ..Shape::full() };
-        let shapes = [0, 1].map(|_| Shape { machines: 6 + random.below(3), commands: random.pick(&[2, COMMANDS]), ..shape });
+        let shapes = [0, 20].map(|holds| Shape { machines: 6 + random.below(3), commands: random.pick(&[2, COMMANDS]), holds, ..shape });
         answers.push(compare_pair(&mut random, shapes));
     }
     let [done, deep] = counts(&answers, [0, 12]);
@@ -340,7 +340,7 @@ fn pairs_of_chains() {
 #[test]
 fn torn_books_word_by_word() {
     let mut random = Random::new(43_000);
-    let shape = Shape { machines: 5, nodes: 14, filled: 60, ..Shape::full() };
+    let shape = Shape { machines: 5, nodes: 14, filled: 60, holds: 20, ..Shape::full() };
     let (good, other) = (random_book(&mut random, &shape), random_book(&mut random, &shape));
     let mut answers = vec![];
     for at in 0..BOOK_WORDS {
@@ -380,7 +380,7 @@ fn rings_and_nine_levels() {
     let good = mast();
     for length in 1..20 {
         let mut ring = chain(7);
-        (0..length).for_each(|k| hold(&mut ring, 30 + k, 30 + (k + 1) % length));
+        (0..length).for_each(|k| put_over(&mut ring, 30 + k, 30 + (k + 1) % length));
         assert_eq!((refusal(&ring, &good), refusal(&good, &ring)), (2, 2));
     }
     let mut nine = chain(LEVELS);

@@ -3,11 +3,11 @@
 mod common;
 
 use common::{hex, Holding, MAST, UNTOUCHED_STEP};
-use himm_model::book::{machine_at, node_at};
+use himm_model::book::{hold_at, machine_at, node_at};
 use himm_model::random::{Costs, Growth, Random, Shape};
 use himm_model::{ABSENT, BLANK, COMMANDS, LEVELS};
 
-/// The refusal of a step where no node has a transition.
+/// The refusal of a step where no node has a transition that counts.
 const STOPS: u32 = 17;
 
 /// A state and the nodes that hold it, from the state up: a node has its machine's number, and the machine the number of its holder.
@@ -24,13 +24,17 @@ fn entered(book: &[u32], node: u32) -> u32 {
     }
 }
 
-/// The word of a node's transition for a command.
+/// The word of a node's transition for a command; `BLANK` also where it is shut, since its target is held.
 fn transition(book: &[u32], node: u32, command: u32) -> u32 {
-    book[node_at(node as usize) + 2 + command as usize]
+    match book[node_at(node as usize) + 2 + command as usize] {
+        BLANK => BLANK,
+        word if book[hold_at(word as usize / 65536)] == 1 => BLANK,
+        word => word,
+    }
 }
 
 /// Judges one step: the node is the state or holds it, the step is that of the node's transition, and no node below it has one. Gives
-/// how many nodes are below it; `None` where the station stops, and then no node has a transition.
+/// how many nodes are below it; `None` where the station stops, and then no node has a transition. A shut one counts as none.
 fn judge(holding: &Holding, state: u32, command: u32) -> Option<usize> {
     let (book, nodes) = (&holding.book, upward(&holding.book, state));
     let none_of = |some: &[u32]| some.iter().all(|&node| transition(book, node, command) == BLANK);
@@ -83,7 +87,8 @@ fn chains_of_eight_levels() {
         let mut random = Random::new(52_000 + seed);
         let (filled, loops) = (random.pick(&[5, 12, 25]), random.pick(&[0, 40]));
         let costs = random.pick(&[Costs::Zero, Costs::Any, Costs::Largest]);
-        let shape = Shape { growth: Growth::EvenChain, machines: LEVELS, nodes: 64, commands: COMMANDS, filled, loops, costs };
+        let holds = random.pick(&[0, 20, 50]);
+        let shape = Shape { growth: Growth::EvenChain, machines: LEVELS, nodes: 64, commands: COMMANDS, filled, loops, costs, holds };
         judge_all(&Holding::random(&mut random, &shape), &mut counts);
     }
     assert!(counts.iter().all(|&count| count > 50), "{counts:?}");
@@ -92,8 +97,8 @@ fn chains_of_eight_levels() {
 #[test]
 fn full_books() {
     let mut counts = [0; LEVELS + 1];
-    for filled in [20, 60, 100] {
-        let shape = Shape { filled, ..Shape::full() };
+    for (filled, holds) in [(20, 0), (60, 0), (60, 30), (100, 0), (100, 60)] {
+        let shape = Shape { filled, holds, ..Shape::full() };
         judge_all(&Holding::random(&mut Random::new(53_000), &shape), &mut counts);
     }
     assert!(counts[0] > 5_000 && counts[1] > 500, "{counts:?}");

@@ -1,24 +1,24 @@
 //! Streams that are kept as the library once wrote them: every later library takes them whole, comes to the same station and writes the
 //! same bytes. In `tests/stored` a stream stands in NAME.stream, and the station that it leaves beside it as text in NAME.station: a line
-//! for the root, for each machine with its start and holder, and for each node with its machine, the machine below it and its transitions,
-//! each as command>target/cost.
+//! for the root, for each machine with its start and holder, and for each node with its machine, whether it is held, the machine below it
+//! and its transitions, each as command>target/cost.
 
 mod common;
 
-use common::{hex, Holding, MAST};
+use common::{mast, Holding};
 use himm_model::random::{edit, Costs, Growth, Random, Shape};
 use himm_model::stream::Command;
 use himm_model::tree::{Node, Tree};
 use himm_model::{COMMANDS, MACHINES, NODES};
 use std::path::PathBuf;
 
-/// A name, and how its book was made when it was stored.
+/// A name, and how its book was made when it was stored. The two edited ones are from random edits without holds.
 type Book = (&'static str, fn() -> Holding);
 
-const BOOKS: [Book; 15] = [
+const BOOKS: [Book; 17] = [
     ("fresh", Holding::fresh),
     ("ladder", Holding::ladder),
-    ("mast", || Holding::loaded(&hex(MAST))),
+    ("mast", || mast("")),
     ("full", || Holding::random(&mut Random::new(1), &Shape::full())),
     ("one-node-at-each-level", || Holding::loaded(&(0..7).flat_map(|k| [0x12, 0, k, k + 1, 0, k + 1]).collect::<Vec<u8>>())),
     ("chain-of-eight-levels", || of_shape(2, Shape { growth: Growth::EvenChain, machines: 8, nodes: 48, filled: 30, ..Shape::full() })),
@@ -31,6 +31,8 @@ const BOOKS: [Book; 15] = [
     ("edited-1", || edited(Holding::fresh(), 9)),
     ("edited-2", || edited(Holding::ladder(), 10)),
     ("highest-numbers", || Holding::loaded(&highest())),
+    ("mast-with-holds", || mast("1A 0002 01 1A 000B 01")),
+    ("holds", || of_shape(11, Shape { machines: 12, nodes: 40, filled: 40, holds: 30, ..Shape::full() })),
 ];
 
 /// A random book, with gaps in its numbers where the shape leaves some.
@@ -93,11 +95,12 @@ fn station(tree: &Tree) -> String {
     text
 }
 
-/// A node's machine, the machine below it and its transitions.
+/// A node's machine, whether it is held, the machine below it and its transitions.
 fn record(node: &Node) -> String {
+    let held = if node.on_hold { ", held" } else { "" };
     let holds = node.below.map_or(String::new(), |m| format!(", holds {m}"));
     let own = node.transitions.iter().enumerate().filter_map(|(x, t)| t.map(|t| format!(" {x}>{}/{}", t.target, t.cost)));
-    format!("in {}{holds}:{}", node.owner, own.collect::<String>())
+    format!("in {}{held}{holds}:{}", node.owner, own.collect::<String>())
 }
 
 #[test]

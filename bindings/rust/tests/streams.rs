@@ -102,10 +102,11 @@ fn cut_and_unknown() {
 #[test]
 fn operands_at_the_edges() {
     let mut random = Random::new(25_000);
-    let shape = Shape { machines: 6, nodes: 20, ..Shape::full() };
+    let shape = Shape { machines: 6, nodes: 20, holds: 20, ..Shape::full() };
     let holding = Holding::random(&mut random, &shape);
     let nodes: Vec<usize> = [0, 255, 256, 65535].into_iter().chain(holding.tree().states().into_iter().take(2)).collect();
     for &node in &nodes {
+        [0, 1, 2, 255].into_iter().for_each(|hold| load_and_refresh(&holding, Command::Hold { node, hold }));
         for machine in [0, 63, 64, 255].into_iter().chain(holding.tree().machines_in_use().into_iter().take(2)) {
             for &other in &nodes {
                 for command in [0, 15, 16, 255] {
@@ -127,7 +128,10 @@ fn edge_cases(holding: &Holding, node: usize, machine: usize, other: usize, comm
         Command::Start { node },
         Command::Crown { machine, node },
     ];
-    for edit in all {
-        holding.clone().load(&[edit.bytes(), vec![himm::REFRESH]].concat());
-    }
+    all.into_iter().for_each(|edit| load_and_refresh(holding, edit));
+}
+
+/// Does an edit and a refresh to a copy of a holding.
+fn load_and_refresh(holding: &Holding, edit: Command) {
+    holding.clone().load(&[edit.bytes(), vec![himm::REFRESH]].concat());
 }

@@ -21,6 +21,7 @@ emptyTree top =
       start = λ m. none;
       holder = λ m. none;
       transition = λ n x. none;
+      hold = λ n. 0;
     }
 
 -- nothing is marked, and all is blank

@@ -8,7 +8,7 @@ ghost use Rattle.clearing.specs.Gone.{Sized};
 ghost use Rattle.editing.specs.Edited.{Edited};
 ghost use Rattle.beginning.specs.Empty.{Emptied};
 
-// Leaves every record, every row and every mark as those of unused numbers are; the root's word stays.
+// Leaves every record, every hold, every row and every mark as those of unused numbers are; the root's word stays.
 fn empty(book: &mut [u32], sheet: &mut [u32])
     requires { ⌜ Sized (now book) (now sheet) × Marks (now sheet) ⌝ }
     ensures { λ r. ⌜ Emptied (treeOf (now (book .entry)) .root) (now (book .exit)) (now (sheet .exit)) ⌝ }

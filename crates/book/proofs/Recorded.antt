@@ -5,13 +5,14 @@ use mathlib.Core.List.{List}
 use Prim.Native.Nat.{ℕ, zero, suc, _+_, _<_}
 use native.Mathlib.Omega.{arith}
 use lib.ListN.{length}
+use Rattle.definitions.specs.Basics.{put}
 use borrow.Author.Tests.{eq-eqb, ne-eqb}
 use Rattle.definitions.specs.Limits.{machines, nodes}
-use Rattle.definitions.specs.Tree.{Tree, withRoot}
+use Rattle.definitions.specs.Tree.{Tree, withRoot, withNodeHold}
 use Rattle.definitions.specs.Book.{word, number, machineField, nodeField, machineFields, nodeFields, encode, treeOf}
 use Rattle.definitions.specs.Edit.{withTransition}
 use Rattle.definitions.proofs.Options.{equal-or-not, put-same, put-other}
-use Rattle.definitions.proofs.Words.{word-number, word-transition, encode-is, treeOf-machine, treeOf-node}
+use Rattle.definitions.proofs.Words.{word-number, word-transition, encode-is, treeOf-machine, treeOf-node, treeOf-hold}
 use Rattle.book.specs.Fields.{Holds, withMachineField, withNodeField}
 use Rattle.book.specs.Recorded.{Recorded}
 
@@ -64,6 +65,22 @@ node-machine t n (suc zero) v i (suc j) = refl
 node-machine t n (suc (suc x)) v i zero = refl
 node-machine t n (suc (suc x)) v i (suc j) = refl
 
+-- it leaves the holds; and a hold leaves all else
+node-hold : (t : Tree) (n k v i : ℕ) → withNodeField t n k v .hold i ≡ t .hold i
+unfolding withTransition
+node-hold t n zero v i = refl
+node-hold t n (suc zero) v i = refl
+node-hold t n (suc (suc x)) v i = refl
+
+hold-machine : (t : Tree) (n v i j : ℕ) → machineField (withNodeHold t n v) i j ≡ machineField t i j
+hold-machine t n v i zero = refl
+hold-machine t n v i (suc j) = refl
+
+hold-node : (t : Tree) (n v i j : ℕ) → nodeField (withNodeHold t n v) i j ≡ nodeField t i j
+hold-node t n v i zero = refl
+hold-node t n v i (suc zero) = refl
+hold-node t n v i (suc (suc x)) = refl
+
 -- ---- a book that has a tree's words so far
 
 -- the root
@@ -74,6 +91,7 @@ recorded-root ws t stored =
       root = ap (λ (u : Tree). u .root) (stored .tree);
       machine = λ i j h. absurd (omega arith);
       node = λ i j h. absurd (omega arith);
+      hold = λ i h. absurd (omega arith);
       here = λ j h. absurd (omega arith);
     }
 
@@ -94,6 +112,7 @@ module _ {t : Tree} {ws after : List ℕ} where
             ∙ less .machine i j (omega (arith, other)) hj)
             (equal-or-not i m);
         node = λ i j h. absurd (omega arith);
+        hold = λ i h. absurd (omega arith);
         here = λ j h. absurd (omega arith);
       }
     where
@@ -114,6 +133,7 @@ module _ {t : Tree} {ws after : List ℕ} where
             ap (λ u. nodeField u i j) (stored .tree)
             ∙ node-other (treeOf ws) n k v i j (λ same at. omega (arith, same, h))
             ∙ less .node i j h hj;
+        hold = λ i h. ap (λ (u : Tree). u .hold i) (stored .tree) ∙ node-hold (treeOf ws) n k v i ∙ less .hold i h;
         here = λ j h.
             ap (λ u. nodeField u n j) (stored .tree)
             ∙ ⊎-elim (λ same. rw same (node-new (treeOf ws) n k v ∙ e))
@@ -121,20 +141,30 @@ module _ {t : Tree} {ws after : List ℕ} where
             (equal-or-not j k);
       }
 
-module _ {ws : List ℕ} {t : Tree} where
-  -- the whole record of node n
-  pub recorded-node : {m n k : ℕ} → k ≡ nodeFields → Recorded ws t m n k → Recorded ws t m (n + 1) 0
-  recorded-node {n = n} all less =
+  -- the whole record of node n, and its hold
+  pub recorded-node : {m n v : ℕ} → Recorded ws t m n nodeFields → Holds after (withNodeHold (treeOf ws) n v) → v ≡ t .hold n
+      → Recorded after t m (n + 1) 0
+  recorded-node {n = n} {v = v} less stored e =
       record {
-        size = less .size;
-        root = less .root;
-        machine = less .machine;
+        size = stored .length;
+        root = ap (λ (u : Tree). u .root) (stored .tree) ∙ less .root;
+        machine = λ i j h hj. ap (λ u. machineField u i j) (stored .tree) ∙ hold-machine (treeOf ws) n v i j ∙ less .machine i j h hj;
         node = λ i j h hj.
-            ⊎-elim (λ same. rw same (less .here j (omega arith))) (λ other. less .node i j (omega (arith, other)) hj) (equal-or-not i n);
+            ap (λ u. nodeField u i j) (stored .tree)
+            ∙ hold-node (treeOf ws) n v i j
+            ∙ ⊎-elim (λ same. rw same (less .here j (omega arith))) (λ other. less .node i j (omega (arith, other)) hj) (equal-or-not i n);
+        hold = λ i h.
+            ap (λ (u : Tree). u .hold i) (stored .tree)
+            ∙ ⊎-elim (λ same. ap (put (treeOf ws .hold) n v) same ∙ put-same (treeOf ws .hold) n v ∙ e ∙ ap (t .hold) (sym same))
+            (λ other. put-other (treeOf ws .hold) n v i other ∙ less .hold i (omega (arith, other))) (equal-or-not i n);
         here = λ j h. absurd (omega arith);
       }
 
-  -- all machines, all nodes
+module _ {ws : List ℕ} {t : Tree} where
+  -- all words of node n, all machines, all nodes
+  pub recorded-fields : {m n k : ℕ} → k ≡ nodeFields → Recorded ws t m n k → Recorded ws t m n nodeFields
+  recorded-fields {m} {n} all less = subst (λ k. Recorded ws t m n k) all less
+
   pub recorded-machines : {m : ℕ} → m ≡ machines → Recorded ws t m 0 0 → Recorded ws t machines 0 0
   recorded-machines all less = subst (λ m. Recorded ws t m 0 0) all less
 
@@ -147,3 +177,4 @@ module _ {ws : List ℕ} {t : Tree} where
   recorded-all all =
       encode-is ws t (all .size) (all .root) (λ m k hm hk. sym (treeOf-machine ws m k hm hk) ∙ all .machine m k hm hk)
       (λ n k hn hk. sym (treeOf-node ws n k hn hk) ∙ all .node n k hn hk)
+      (λ n hn. sym (treeOf-hold ws n hn) ∙ all .hold n hn)

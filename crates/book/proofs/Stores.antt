@@ -1,20 +1,22 @@
 -- What the tree of a book is after one word of it is written. Assumes nothing.
 use mathlib.Core.Path.{_≡_, ap, sym, _∙_}
+use mathlib.Core.Bool.{cond}
 use mathlib.Core.Option.{Option, none}
 use mathlib.Core.List.{List}
 use Prim.Native.Nat.{ℕ, zero, suc, _+_, _*_, _≤_, _<_}
 use native.Mathlib.Omega.{arith}
-use lib.ListN.{length, set, length-set}
+use lib.Dec.{ltb}
+use lib.ListN.{length, getD, set, length-set}
 use lib.Seq.{getD-set-same, getD-set-other}
 use Rattle.definitions.specs.Basics.{put}
 use Rattle.definitions.specs.Limits.{machines, nodes, commands, bookLength}
-use Rattle.definitions.specs.Tree.{Tree, Transition, withRoot, withNodes, withMachines, withTransitions}
-use Rattle.definitions.specs.Book.{machineFields, nodeFields, machineBase, nodeBase, machineWord, nodeWord}
+use Rattle.definitions.specs.Tree.{Tree, Transition, withRoot, withNodes, withMachines, withTransitions, withNodeHold}
+use Rattle.definitions.specs.Book.{machineFields, nodeFields, machineBase, nodeBase, holdBase, machineWord, nodeWord, holdWord}
 use Rattle.definitions.specs.Book.{number, transitionOf, under, treeOf}
 use Rattle.definitions.specs.Edit.{withTransition}
 use Rattle.definitions.proofs.Words.{same-tree}
 use Rattle.book.specs.Fields.{Holds, withMachineField, withNodeField, withoutTransitions}
-use Rattle.book.proofs.Places.{kept, Apart, place-same, field-put, field-kept, grid-put, grid-kept}
+use Rattle.book.proofs.Places.{kept, kept-grid, changed, Apart, place-same, field-put, field-kept, grid-put, grid-kept}
 use Rattle.book.proofs.Places.{clearedTo, cleared-none, cleared-more, cleared-all, grid-past}
 
 -- where word k of a machine's record stands, and that each has a place of its own; the same of a node's
@@ -42,6 +44,16 @@ unfolding under machineWord
 machine-far ws p v k m apart =
     kept machines m number none (λ hm. getD-set-other ws p (machinePlace m k) v 0 (apart hm))
 
+-- a store before the holds leaves them
+hold-far : (ws : List ℕ) (p v : ℕ) → p < holdBase → (n : ℕ) → treeOf (set ws p v) .hold n ≡ treeOf ws .hold n
+unfolding treeOf holdWord
+hold-far ws p v h n = ap (λ w. cond (ltb n nodes) w 0) (getD-set-other ws p (holdBase + n) v 0 (omega arith))
+
+-- a store among the holds leaves the nodes' words
+node-same : (ws : List ℕ) (p v : ℕ) → holdBase ≤ p → (n k : ℕ) → n < nodes → k < nodeFields → nodeWord (set ws p v) n k ≡ nodeWord ws n k
+unfolding nodeWord
+node-same ws p v h n k hn hk = getD-set-other ws p (nodePlace n k) v 0 (omega arith)
+
 -- a store before the nodes' words leaves what is said of nodes
 nodes-stay : (ws : List ℕ) (p v : ℕ) → p < nodeBase → {root : ℕ} {start holder : ℕ → Option ℕ} → treeOf (set ws p v) .root ≡ root
     → ((m : ℕ) → treeOf (set ws p v) .start m ≡ start m) → ((m : ℕ) → treeOf (set ws p v) .holder m ≡ holder m)
@@ -53,16 +65,17 @@ nodes-stay ws p v hi root start holder =
     (λ n. node-far ws p v hi (λ w. under nodes n (number w)) n 1)
     start holder
     (λ n x. node-far ws p v hi (λ w. under nodes n (under commands x (transitionOf w))) n (2 + x))
+    (hold-far ws p v (omega arith))
 
--- a store among the nodes' words leaves the root and what is said of machines
+-- a store among the nodes' words and the holds leaves the root and what is said of machines
 machines-stay : (ws : List ℕ) (p v : ℕ) → nodeBase ≤ p → {owner below : ℕ → Option ℕ} {transition : ℕ → ℕ → Option Transition}
-    → ((n : ℕ) → treeOf (set ws p v) .owner n ≡ owner n) → ((n : ℕ) → treeOf (set ws p v) .below n ≡ below n)
-    → ((n x : ℕ) → treeOf (set ws p v) .transition n x ≡ transition n x)
-    → treeOf (set ws p v) ≡ withNodes (treeOf ws) owner below transition
+    → {hold : ℕ → ℕ} → ((n : ℕ) → treeOf (set ws p v) .owner n ≡ owner n) → ((n : ℕ) → treeOf (set ws p v) .below n ≡ below n)
+    → ((n x : ℕ) → treeOf (set ws p v) .transition n x ≡ transition n x) → ((n : ℕ) → treeOf (set ws p v) .hold n ≡ hold n)
+    → treeOf (set ws p v) ≡ withNodes (treeOf ws) owner below transition hold
 unfolding treeOf
-machines-stay ws p v h owner below transition =
+machines-stay ws p v h owner below transition holds =
     same-tree _ _ (getD-set-other ws p 0 v 0 (omega arith)) owner below
-    (λ m. machine-far ws p v 1 m (omega arith)) (λ m. machine-far ws p v 0 m (omega arith)) transition
+    (λ m. machine-far ws p v 1 m (omega arith)) (λ m. machine-far ws p v 0 m (omega arith)) transition holds
 
 -- the root is written
 pub root-store : (ws : List ℕ) (m : ℕ) → length ws ≡ bookLength → treeOf (set ws 0 m) ≡ withRoot (treeOf ws) m
@@ -94,11 +107,13 @@ node-store ws n zero v l hn hk =
     (field-put nodePlace nodeFields node-apart ws n 0 v hk (omega arith) nodes number none hn)
     (field-kept nodePlace nodeFields node-apart ws n 0 v hk (omega arith) nodes 1 number none (omega arith) (omega arith))
     (grid-kept nodePlace nodeFields node-apart ws n 0 v hk (omega arith) nodes commands 2 transitionOf (omega arith) (omega arith))
+    (hold-far ws (nodePlace n 0) v (omega arith))
 node-store ws n (suc zero) v l hn hk =
     machines-stay ws (nodePlace n 1) v (omega arith)
     (field-kept nodePlace nodeFields node-apart ws n 1 v hk (omega arith) nodes 0 number none (omega arith) (omega arith))
     (field-put nodePlace nodeFields node-apart ws n 1 v hk (omega arith) nodes number none hn)
     (grid-kept nodePlace nodeFields node-apart ws n 1 v hk (omega arith) nodes commands 2 transitionOf (omega arith) (omega arith))
+    (hold-far ws (nodePlace n 1) v (omega arith))
 node-store ws n (suc (suc x)) v l hn hk =
     let k : ℕ = suc (suc x) in
     machines-stay ws (nodePlace n k) v (omega arith)
@@ -106,6 +121,18 @@ node-store ws n (suc (suc x)) v l hn hk =
     (field-kept nodePlace nodeFields node-apart ws n k v hk (omega arith) nodes 1 number none (omega arith) (omega arith))
     (grid-put nodePlace nodeFields node-apart ws n k v hk (omega arith) nodes commands 2 x transitionOf hn (omega arith) (omega arith)
     (omega arith))
+    (hold-far ws (nodePlace n k) v (omega arith))
+
+-- the hold of node n is written
+hold-store : (ws : List ℕ) (n v : ℕ) → length ws ≡ bookLength → n < nodes → treeOf (set ws (holdBase + n) v) ≡ withNodeHold (treeOf ws) n v
+unfolding treeOf under holdWord
+hold-store ws n v l hn =
+    let p : ℕ = holdBase + n in
+    machines-stay ws p v (omega arith) (λ i. kept nodes i number none (λ hi. node-same ws p v (omega arith) i 0 hi (omega arith)))
+    (λ i. kept nodes i number none (λ hi. node-same ws p v (omega arith) i 1 hi (omega arith)))
+    (λ i x. kept-grid nodes commands i x transitionOf (λ hi hx. node-same ws p v (omega arith) i (2 + x) hi (omega arith)))
+    (changed nodes n v (λ w. w) 0 (λ i. getD ws (holdBase + i) 0) (λ i. getD (set ws p v) (holdBase + i) 0) hn
+    (getD-set-same ws p v 0 (omega arith)) (λ i hi other. getD-set-other ws p (holdBase + i) v 0 (λ same. other (omega arith))))
 
 -- ---- the same, of the code's indices
 
@@ -123,6 +150,10 @@ pub node-holds : (ws : List ℕ) (n k v : ℕ) → length ws ≡ bookLength → 
 node-holds ws n k v l hn hk =
     let at : 129 + 18 * n + k ≡ nodePlace n k = omega arith in
     record { length = length-set ws (129 + 18 * n + k) v ∙ l; tree = rw at (node-store ws n k v l hn hk) }
+
+pub hold-holds : (ws : List ℕ) (n v : ℕ) → length ws ≡ bookLength → n < nodes
+    → Holds (set ws (4737 + n) v) (withNodeHold (treeOf ws) n v)
+hold-holds ws n v l hn = record { length = length-set ws (4737 + n) v ∙ l; tree = hold-store ws n v l hn }
 
 -- ---- one store after the other
 

@@ -34,4 +34,4 @@ abbrev pub withoutMachine : Tree → ℕ → Tree
 withoutMachine t m = withMachines t (put (t .start) m none) (put (t .holder) m none)
 
 abbrev pub withoutNode : Tree → ℕ → Tree
-withoutNode t n = withNodes t (put (t .owner) n none) (put (t .below) n none) (put (t .transition) n (λ x. none))
+withoutNode t n = withNodes t (put (t .owner) n none) (put (t .below) n none) (put (t .transition) n (λ x. none)) (put (t .hold) n 0)

@@ -1,10 +1,10 @@
-// The words of a book (document 01, "Book and sheet in memory"), read and written one at a time. A book here has its 4,737 words, and
-// numbers are in range; what a word says is then what the book's tree says, and a store changes one field of that tree.
+// The words of a book (document 01, "Book and sheet in memory"; document 02, W-205), read and written one at a time. A book here has its 4,993
+// words, and numbers are in range; what a word says is then what the book's tree says, and a store changes one field of that tree.
 ghost use mathlib.Core.Path.{_≡_};
-ghost use Prim.Native.Nat.{_<_};
+ghost use Prim.Native.Nat.{_/_, _%_, _<_};
 ghost use lib.ListN.{length, getD};
-ghost use Rattle.definitions.specs.Limits.{machines, nodes, commands, bookLength};
-ghost use Rattle.definitions.specs.Tree.{withRoot, withHolder, withStartOf, withOwner, withBelow};
+ghost use Rattle.definitions.specs.Limits.{machines, nodes, commands, costs, bookLength};
+ghost use Rattle.definitions.specs.Tree.{withRoot, withHolder, withStartOf, withOwner, withBelow, withNodeHold, onHold};
 ghost use Rattle.definitions.specs.Book.{word, transitionWord, machineFields, nodeFields, machineField, nodeField, treeOf};
 ghost use Rattle.definitions.specs.Book.{number, transitionOf, WellFormed};
 ghost use Rattle.definitions.specs.Step.{counting};
@@ -13,7 +13,10 @@ ghost use Rattle.book.specs.Fields.{Holds, withoutTransitions};
 ghost use Rattle.book.specs.Fields.{withMachineField, withNodeField, withoutMachine, withoutNode};
 
 // The words of a book.
-pub const BOOK: usize = 4737;
+pub const BOOK: usize = 4993;
+
+// Where the holds begin.
+const HOLDS: usize = 4737;
 
 // How many machines, nodes and commands there are.
 pub const MACHINES: u32 = 64;
@@ -111,12 +114,31 @@ pub fn transition(book: &[u32], n: u32, x: u32) -> u32
     node_word(book, n, 2 + x)
 }
 
+// The hold of node n: 1 where it is held, else 0.
+pub fn hold(book: &[u32], n: u32) -> u32
+    requires { ⌜ (length (now book) ≡ bookLength) × (n < nodes) ⌝ }
+    ensures { λ r. ⌜ r ≡ treeOf (now (book .entry)) .hold n ⌝ }
+{
+    let i = HOLDS + (n as usize);
+    book[i]
+}
+
+// Whether a hold shuts the transition of a word: its target is held. Of BLANK, too, that is some node; whether it is held makes no difference,
+// since BLANK counts for none either way.
+pub fn shut(book: &[u32], w: u32) -> bool
+    requires { ⌜ length (now book) ≡ bookLength ⌝ }
+    ensures { λ r. ⌜ r ≡ onHold (treeOf (now (book .entry))) (w / costs % nodes) ⌝ }
+{
+    hold(book, w / 65536 % NODES) == 1
+}
+
 // The transition of node n that counts for command x, as a step and every sheet mean it: target and cost in one word, BLANK for none.
 pub fn counting(book: &[u32], n: u32, x: u32) -> u32
     requires { ⌜ WellFormed (now book) × (n < nodes) × (x < commands) ⌝ }
     ensures { λ r. ⌜ r ≡ transitionWord (counting (treeOf (now (book .entry))) n x) ⌝ }
 {
-    transition(book, n, x)
+    let w = transition(book, n, x);
+    if shut(book, w) { BLANK } else { w }
 }
 
 // Makes v the word at place k of machine m's record; every other word stays.
@@ -185,6 +207,15 @@ pub fn set_transition(book: &mut [u32], n: u32, x: u32, w: u32)
     set_node_word(book, n, 2 + x, w);
 }
 
+// Makes v the hold of node n.
+pub fn set_hold(book: &mut [u32], n: u32, v: u32)
+    requires { ⌜ (length (now book) ≡ bookLength) × (n < nodes) ⌝ }
+    ensures { λ r. ⌜ Holds (now (book .exit)) (withNodeHold (treeOf (now (book .entry))) n v) ⌝ }
+{
+    let i = HOLDS + (n as usize);
+    book[i] = v;
+}
+
 // Leaves machine m's record as an unused one has it.
 pub fn clear_machine(book: &mut [u32], m: u32)
     requires { ⌜ (length (now book) ≡ bookLength) × (m < machines) ⌝ }
@@ -206,7 +237,7 @@ fn clear_transitions(book: &mut [u32], n: u32)
     }
 }
 
-// Leaves node n's record as an unused one has it.
+// Leaves node n's record and its hold as an unused one has them.
 pub fn clear_node(book: &mut [u32], n: u32)
     requires { ⌜ (length (now book) ≡ bookLength) × (n < nodes) ⌝ }
     ensures { λ r. ⌜ Holds (now (book .exit)) (withoutNode (treeOf (now (book .entry))) n) ⌝ }
@@ -214,4 +245,5 @@ pub fn clear_node(book: &mut [u32], n: u32)
     set_owner(book, n, ABSENT);
     set_below(book, n, ABSENT);
     clear_transitions(book, n);
+    set_hold(book, n, 0);
 }

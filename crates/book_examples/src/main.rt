@@ -37,7 +37,7 @@ fn same(a: &Book, b: &Book) -> u32 {
 }
 
 // Copies a book by its stream into the ladder's holding, and writes the stream's length, or the refusal, and whether the words are the same.
-fn show_copy(text: &[u8], book: &Book, out: &mut [u8; 72]) {
+fn show_copy(text: &[u8], book: &Book, out: &mut [u8; 76]) {
     let mut other = [0u32; book::BOOK];
     let mut sheet = [0u32; sheet::SHEET];
     open_ladder(&mut other, &mut sheet);
@@ -49,7 +49,7 @@ fn show_copy(text: &[u8], book: &Book, out: &mut [u8; 72]) {
 }
 
 // The number that a copy answers.
-fn copy(book: &Book, out: &mut [u8; 72], other: &mut Book, sheet: &mut Sheet) -> u32 {
+fn copy(book: &Book, out: &mut [u8; 76], other: &mut Book, sheet: &mut Sheet) -> u32 {
     match copying::copy(book, out, other, sheet) {
         WriteAnswer::Written(n) => n,
         WriteAnswer::Refused(k) => k,
@@ -96,8 +96,8 @@ fn write_front(text: &[u8], book: &[u32], out: &mut [u8], room: usize) {
     }
 }
 
-// The same for a list of 72 bytes.
-fn show_write(text: &[u8], book: &Book, out: &mut [u8; 72], room: usize) {
+// The same for a list of 76 bytes.
+fn show_write(text: &[u8], book: &Book, out: &mut [u8; 76], room: usize) {
     write_front(text, book, out, room);
 }
 
@@ -118,15 +118,36 @@ fn tear(text: &[u8], book: &mut Book, at: usize, word: u32) {
     }
 }
 
+// The book torn in each way.
+fn show_torn(book: &mut Book) {
+    tear(b"owner out of range: ", book, 129, 65536);
+    tear(b"owner not in use: ", book, 147, 5);
+    tear(b"target out of range: ", book, 131, 16777217);
+    tear(b"target in another machine: ", book, 131, 655361);
+    tear(b"start of another machine: ", book, 2, 10);
+    tear(b"root held by its own node: ", book, 148, 0);
+    tear(b"holder that holds nothing: ", book, 3, 2);
+    tear(b"two roots: ", book, 3, 65535);
+    tear(b"root with a holder: ", book, 1, 11);
+    tear(b"root out of range: ", book, 0, 64);
+    tear(b"transition of an unused node: ", book, 185, 65541);
+    tear(b"hold of two: ", book, 4739, 2);
+    tear(b"hold that is not a byte: ", book, 4739, 4294967295);
+    tear(b"hold of an unused node: ", book, 4740, 1);
+    tear(b"hold of the last node, which is unused: ", book, 4992, 1);
+    tear(b"held start: ", book, 4747, 1);
+    tear(b"held start of the root: ", book, 4737, 1);
+}
+
 // The number in 64 bits.
 fn wide(x: u8) -> u64 {
     x as u64
 }
 
 // Writes bytes in hexadecimal.
-fn dump(bytes: &[u8; 72]) {
+fn dump(bytes: &[u8; 76]) {
     let mut i = 0usize;
-    while i < 72 {
+    while i < 76 {
         let b = bytes[i];
         io::print_hex(STDOUT_FILENO, wide(b), 2);
         i += 1;
@@ -143,7 +164,7 @@ fn open_short(book: &mut [u32], sheet: &mut [u32], words: usize) -> u32 {
 
 // Opens fresh, first with a book that is a word too short, which must stay as it is.
 fn show_open(book: &mut Book, sheet: &mut Sheet) {
-    line(b"open short: ", open_short(book, sheet, 4736));
+    line(b"open short: ", open_short(book, sheet, book::BOOK - 1));
     line(b"untouched: ", same(book, &[7u32; book::BOOK]));
     line(b"open fresh: ", opening::open_fresh(book, sheet));
 }
@@ -170,7 +191,26 @@ fn step_short(book: &[u32], words: usize) {
 
 // A step with a book that is a word too short.
 fn show_short(book: &Book) {
-    step_short(book, 4736);
+    step_short(book, book::BOOK - 1);
+}
+
+// Node 11 held, by its word: the transition into it is shut for a step and for Choose, and the stream ends with the hold. Where node 1 has a
+// transition for command 2 the command climbs there from node 10.
+fn show_hold(book: &mut Book) {
+    let mut out = [255u8; 76];
+    show_step(b"step 10 by 2: ", book, 10, 2);
+    book[4748] = 1;
+    show_step(b"step 10 by 2, 11 held: ", book, 10, 2);
+    show_step(b"step 11 by 1, 11 held: ", book, 11, 1);
+    show_choice(b"choose past it: ", book, 0, 2, b"\x02", b"\x00\x02\x01");
+    show_write(b"write the hold: ", book, &mut out, 76);
+    dump(&out);
+    show_write(b"\nwrite it into 73: ", book, &mut out, 73);
+    show_copy(b"copied with the hold: ", book, &mut out);
+    book[151] = 131078;
+    show_step(b"climb past node 11: ", book, 10, 2);
+    book[151] = 4294967295;
+    book[4748] = 0;
 }
 
 fn main() {
@@ -188,8 +228,8 @@ fn main() {
     show_step(b"step 65536: ", &book, 65536, 0);
     show_step(b"command 16: ", &book, 0, 16);
     show_short(&book);
-    let mut out = [255u8; 72];
-    show_write(b"write: ", &book, &mut out, 72);
+    let mut out = [255u8; 76];
+    show_write(b"write: ", &book, &mut out, 76);
     dump(&out);
     show_write(b"\nwrite into 70: ", &book, &mut out, 70);
     show_write(b"write into 69: ", &book, &mut out, 69);
@@ -198,17 +238,8 @@ fn main() {
     show_choice(b"choose tie: ", &book, 0, 2, b"\x02\x00", b"\x02\x01");
     show_choice(b"choose none: ", &book, 0, 2, b"\x07", b"\x10\x02");
     show_choice(b"choose here: ", &book, 2, 2, b"\x00", b"");
-    tear(b"owner out of range: ", &mut book, 129, 65536);
-    tear(b"owner not in use: ", &mut book, 147, 5);
-    tear(b"target out of range: ", &mut book, 131, 16777217);
-    tear(b"target in another machine: ", &mut book, 131, 655361);
-    tear(b"start of another machine: ", &mut book, 2, 10);
-    tear(b"root held by its own node: ", &mut book, 148, 0);
-    tear(b"holder that holds nothing: ", &mut book, 3, 2);
-    tear(b"two roots: ", &mut book, 3, 65535);
-    tear(b"root with a holder: ", &mut book, 1, 11);
-    tear(b"root out of range: ", &mut book, 0, 64);
-    tear(b"transition of an unused node: ", &mut book, 185, 65541);
+    show_hold(&mut book);
+    show_torn(&mut book);
     line(b"same book: ", same(&book, &before));
     line(b"open ladder: ", open_ladder(&mut book, &mut sheet));
     show_step(b"ladder 1 by 1: ", &book, 1, 1);

@@ -10,7 +10,7 @@ use borrow.Author.Tests.{ltb-true}
 use Rattle.definitions.specs.Basics.{unless}
 use Rattle.definitions.specs.Limits.{machines, nodes, commands}
 use Rattle.definitions.specs.Tree.{Tree}
-use Rattle.definitions.specs.Book.{number, transitionOf, under, nodeWord, machineWord, treeOf}
+use Rattle.definitions.specs.Book.{number, transitionOf, under, nodeWord, machineWord, holdWord, treeOf}
 use Rattle.definitions.specs.Sheet.{Rows, costOf, machineRowWord, nodeRowWord, rowsOf}
 use Rattle.definitions.proofs.Words.{same-nodes, same-machines, same-rows}
 use Rattle.book.specs.Fields.{withoutNode}
@@ -52,15 +52,15 @@ left-sized left = record { book = left .book .length; sheet = left .sheet .lengt
 
 -- ---- by one test and then by another
 
-false-both : (a b s : Bool) → cond b false (cond a false s) ≡ cond (a || b) false s
-false-both true true s = refl
-false-both true false s = refl
-false-both false b s = refl
+empty-both : {A : Type 0} (e : A) (a b : Bool) (v : A) → cond b e (cond a e v) ≡ cond (a || b) e v
+empty-both e true true v = refl
+empty-both e true false v = refl
+empty-both e false b v = refl
 
 nodes-both : (t : Tree) (a b : ℕ → Bool) → withoutNodes (withoutNodes t a) b ≡ withoutNodes t (λ k. a k || b k)
 nodes-both t a b =
     same-nodes _ _ refl (λ n. unless-both (a n) (b n) (t .owner n)) (λ n. unless-both (a n) (b n) (t .below n))
-    (λ n x. unless-both (a n) (b n) (t .transition n x))
+    (λ n x. unless-both (a n) (b n) (t .transition n x)) (λ n. empty-both 0 (a n) (b n) (t .hold n))
 
 machines-both : (t : Tree) (a b : ℕ → Bool) → withoutMachines (withoutMachines t a) b ≡ withoutMachines t (λ k. a k || b k)
 machines-both t a b =
@@ -68,7 +68,7 @@ machines-both t a b =
 
 machine-rows-both : (r : Rows) (a b : ℕ → Bool) → withoutMachineRows (withoutMachineRows r a) b ≡ withoutMachineRows r (λ k. a k || b k)
 machine-rows-both r a b =
-    same-rows _ _ (λ m. false-both (a m) (b m) (r .stale m)) (λ m x. unless-both (a m) (b m) (r .exit m x))
+    same-rows _ _ (λ m. empty-both false (a m) (b m) (r .stale m)) (λ m x. unless-both (a m) (b m) (r .exit m x))
     (λ m x. unless-both (a m) (b m) (r .last m x)) (λ n. refl) (λ n. refl) (λ n. refl)
 
 -- ---- the loop over the nodes
@@ -79,7 +79,7 @@ spread true f x = refl
 spread false f x = refl
 
 node-one : (t : Tree) (i : ℕ) → withoutNode t i ≡ withoutNodes t (λ k. eqb k i)
-node-one t i = same-nodes _ _ refl (λ n. refl) (λ n. refl) (λ n x. spread (eqb n i) (t .transition n) x)
+node-one t i = same-nodes _ _ refl (λ n. refl) (λ n. refl) (λ n x. spread (eqb n i) (t .transition n) x) (λ n. refl)
 
 module _ (g : ℕ → Bool) (i : ℕ) where
   -- at first
@@ -176,7 +176,8 @@ module _ (g h : ℕ → Bool) where
       left-same left
       (same-nodes _ _ refl (λ n. same-under nodes n g h (number (nodeWord b n 0)) none agree)
       (λ n. same-under nodes n g h (number (nodeWord b n 1)) none agree)
-      (λ n x. same-under nodes n g h (under commands x (transitionOf (nodeWord b n (2 + x)))) none agree))
+      (λ n x. same-under nodes n g h (under commands x (transitionOf (nodeWord b n (2 + x)))) none agree)
+      (λ n. same-under nodes n g h (holdWord b n) 0 agree))
       (same-rows _ _ (λ m. refl) (λ m x. refl) (λ m x. refl) (λ n. same-under nodes n g h (costOf (nodeRowWord s n 0)) none agree)
       (λ n. same-under nodes n g h (number (nodeRowWord s n 1)) none agree)
       (λ n. same-under nodes n g h (number (nodeRowWord s n 2)) none agree))

@@ -27,6 +27,7 @@ pub record Left (rs ws′ rs′ : List ℕ) (t : Tree) (r : Rows) : Type 0 where
 abbrev pub withoutNodes : Tree → (ℕ → Bool) → Tree
 withoutNodes t gone =
     withNodes t (λ k. unless (gone k) (t .owner k)) (λ k. unless (gone k) (t .below k)) (λ k x. unless (gone k) (t .transition k x))
+    (λ k. cond (gone k) 0 (t .hold k))
 
 -- the tree where nothing is said of the machines that pass the test
 abbrev pub withoutMachines : Tree → (ℕ → Bool) → Tree

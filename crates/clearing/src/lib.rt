@@ -5,7 +5,7 @@ ghost use Rattle.definitions.specs.Limits.{machines, nodes};
 ghost use Rattle.book.specs.Chosen.{chosen, only, upTo};
 ghost use Rattle.clearing.specs.Gone.{Sized, NodeDropped, MachineDropped, NodesGone, MachinesGone};
 
-// Leaves the record and the row of node n as an unused node has them.
+// Leaves the record, the hold and the row of node n as an unused node has them.
 pub fn drop_node(book: &mut [u32], sheet: &mut [u32], n: u32)
     requires { ⌜ Sized (now book) (now sheet) × (n < nodes) ⌝ }
     ensures { λ r. ⌜ NodeDropped (now (book .entry)) (now (sheet .entry)) (now (book .exit)) (now (sheet .exit)) n ⌝ }

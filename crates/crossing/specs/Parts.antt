@@ -71,8 +71,8 @@ landed lands (passed c) = none
 unfoldable pub finds : Tree → List ℕ → ℕ → ℕ → Option Transition
 finds t lands n x = landed lands (climb t (t .root) n x)
 
--- what a node of machine m that has no transition for x takes over: what x finds from the node that holds m, after m was left, and for the
--- root nothing
+-- what a node of machine m that has no transition which counts for x takes over: what x finds from the node that holds m, after m was left,
+-- and for the root nothing
 unfoldable pub inherits : Tree → List ℕ → ℕ → ℕ → Option Transition
 inherits t lands m x = t .holder m >>= λ h. landed lands (past (leaving t m) (climb t (t .root) h x))
 

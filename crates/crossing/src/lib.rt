@@ -120,8 +120,8 @@ fn unless_none(w: u32, own: u32, inherited: u32) -> u32
     if w == book::BLANK { inherited } else { own }
 }
 
-// What command x finds from node n of machine m, as a transition's word whose target is where the one found lands: the transition of n,
-// or else what m inherits. The list `up` has the words of what is inherited taken from BLANK, so 0 for nothing.
+// What command x finds from node n of machine m, as a transition's word whose target is where the one found lands: the transition of n
+// that counts, or else what m inherits. The list `up` has the words of what is inherited taken from BLANK, so 0 for nothing.
 fn find(book: &[u32], lands: &[u32], up: &[u32], m: u32, n: u32, x: u32) -> u32
     requires { ⌜ WellFormed (now book) × NodeList (now lands) × UpRoom (now up) × (treeOf (now book) .owner n ≡ some m) × (x < commands)
         × MachineRow (treeOf (now book)) (now lands) (now up) m ⌝ }

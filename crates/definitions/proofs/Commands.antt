@@ -12,12 +12,12 @@ use lib.Dec.{eqb, ltb}
 use borrow.Author.Tests.{ltb-true, lt-ltb, eqb-true, eqb-false, eq-eqb, ne-eqb, not-false}
 use Rattle.definitions.specs.Basics.{_>>=_, option, unless, isSome, isAt, put, iterate, anyOf, anyBelow}
 use Rattle.definitions.specs.Limits.{machines, nodes, commands, levels}
-use Rattle.definitions.specs.Tree.{Tree, Transition, Sound, parent, above, level, pathF, path, within, over}
+use Rattle.definitions.specs.Tree.{Tree, Transition, Sound, onHold, parent, above, level, pathF, path, within, over}
 use Rattle.definitions.specs.Sheet.{Rows}
 use Rattle.definitions.specs.Truth.{BlankRule, TrueMachine}
 use Rattle.definitions.specs.Stream.{Edit, Command, edit, refresh}
 use Rattle.definitions.specs.Edit.{Test, _when_, firstHolding, lowest, apart, isStart, refusals, refusal, edited, touches, withStale, editedRows, treeAfter, RowsAfter, single, heldWithin, without, withTransition, withStart, Refreshed}
-use Rattle.definitions.proofs.Words.{unused-below, unused-transition, unused-holder}
+use Rattle.definitions.proofs.Words.{unused-below, unused-hold, unused-transition, unused-holder}
 use Rattle.definitions.proofs.Path.{Deep, at-root, under, deep, deep-unique, path-root, path-on}
 use Rattle.definitions.proofs.Options.{present, none-some, some-same, decided, true-false, equal-or-not, put-same, put-other, isSome-true, isSome-false, isAt-true}
 
@@ -219,21 +219,52 @@ pub clear-taken : {t : Tree} {n x : ℕ} → TakenClear t n x → refusal t (edi
 unfolding refusal refusals firstHolding
 clear-taken {t} {n} {x} k = rw (lt-ltb n nodes (k .node-range), lt-ltb x commands (k .command-range), k .node-used .1)
 
--- start: a node in use
+-- start: a node in use that is not held
 pub record TakenStart (t : Tree) (n : ℕ) : Type 0 where
   pub node-range : n < nodes
   pub node-used : (p : ℕ) × (t .owner n ≡ some p)
+  pub not-on-hold : onHold t n ≡ false
 
 pub taken-start : (t : Tree) (n : ℕ) → refusal t (edit (Edit.start n)) ≡ 0 → TakenStart t n
 unfolding refusal refusals
 taken-start t n e =
     let (range, e6) = passed 5 _ _ e in
-    let (used, end) = passed 6 _ _ e6 in
-    record { node-range = in-range range; node-used = is-there used }
+    let (used, e7) = passed 6 _ _ e6 in
+    let (free, end) = passed 20 _ _ e7 in
+    record { node-range = in-range range; node-used = is-there used; not-on-hold = free }
 
 pub start-taken : {t : Tree} {n : ℕ} → TakenStart t n → refusal t (edit (Edit.start n)) ≡ 0
 unfolding refusal refusals firstHolding
-start-taken {t} {n} k = rw (lt-ltb n nodes (k .node-range), k .node-used .1)
+start-taken {t} {n} k = rw (lt-ltb n nodes (k .node-range), k .node-used .1, k .not-on-hold)
+
+-- hold: a node in use and 1 or 0; for 1 the node is not the start node of its machine
+pub record TakenHold (t : Tree) (n b : ℕ) : Type 0 where
+  pub node-range : n < nodes
+  pub hold-range : b < 2
+  pub node-used : (p : ℕ) × (t .owner n ≡ some p)
+  pub no-start : b ≡ 1 → (p : ℕ) → t .owner n ≡ some p → t .start p ≡ some n → ⊥
+
+pub taken-hold : (t : Tree) (n b : ℕ) → refusal t (edit (Edit.hold n b)) ≡ 0 → TakenHold t n b
+unfolding refusal refusals
+taken-hold t n b e =
+    let (ranges, e6) = passed 5 _ _ e in
+    let (node, byte) = neither ranges in
+    let (used, e7) = passed 6 _ _ e6 in
+    let (inner, end) = passed 20 _ _ e7 in
+    record {
+      node-range = in-range node;
+      hold-range = in-range byte;
+      node-used = is-there used;
+      no-start = λ one. not-start t n (rw (eq-eqb b 1 one) at inner);
+    }
+
+pub hold-taken : {t : Tree} {n b : ℕ} → TakenHold t n b → refusal t (edit (Edit.hold n b)) ≡ 0
+unfolding refusal refusals firstHolding
+hold-taken {t} {n} {b} k =
+    let (p, own) = k .node-used in
+    ⊎-elim
+    (λ one. rw (lt-ltb n nodes (k .node-range), lt-ltb b 2 (k .hold-range), start-other t n p own (k .no-start one p own), own, eq-eqb b 1 one))
+    (λ other. rw (lt-ltb n nodes (k .node-range), lt-ltb b 2 (k .hold-range), own, ne-eqb b 1 other)) (equal-or-not b 1)
 
 -- crown: a machine and a node that are not in use, and no node at the lowest level
 pub record TakenCrown (t : Tree) (m n : ℕ) : Type 0 where
@@ -583,6 +614,7 @@ pub record Begun (m n : ℕ) (u : Tree) (r q : Rows) : Type 0 where
   pub start : Changed (λ p. none) m (some n) (u .start)
   pub holder : (p : ℕ) → u .holder p ≡ none
   pub transition : (k x : ℕ) → u .transition k x ≡ none
+  pub hold : (k : ℕ) → u .hold k ≡ 0
   pub rows : RowsLeft u (λ p. p ≡ m) (λ p. p ≡ m → ⊥) (λ k. k ≡ n → ⊥) r q
 
 pub begun : (t : Tree) (r : Rows) (m n : ℕ) → BlankRule t r → Begun m n (edited t (Edit.begin m n)) r (editedRows t (Edit.begin m n) r)
@@ -597,6 +629,7 @@ begun t r m n blanks =
       start = start;
       holder = λ p. refl;
       transition = λ k x. refl;
+      hold = λ k. refl;
       rows = rows-left t _ _ r blanks (record {
         test-true = λ p same. eq-eqb p m same;
         test-false = λ p other. ne-eqb p m other;
@@ -616,8 +649,10 @@ pub record Added (t : Tree) (m n s : ℕ) (u : Tree) (r q : Rows) : Type 0 where
   pub start : Same (t .start) (u .start)
   pub holder : Same (t .holder) (u .holder)
   pub transition : SameBoth (t .transition) (u .transition)
+  pub hold : Same (t .hold) (u .hold)
   pub new-plain : u .below n ≡ none
   pub new-free : (x : ℕ) → u .transition n x ≡ none
+  pub new-open : u .hold n ≡ 0
   pub rows : RowsLeft u (λ p. over t p s ≡ true) NoneGone NoneGone r q
 
 pub added : (t : Tree) (r : Rows) (m n s : ℕ) → Sound t → BlankRule t r → refusal t (edit (Edit.add m n)) ≡ 0 → t .start m ≡ some s
@@ -633,12 +668,14 @@ added t r m n s sound blanks ok st =
       start = λ k. refl;
       holder = λ k. refl;
       transition = λ k x. refl;
+      hold = λ k. refl;
       new-plain = unused-below t sound n new;
       new-free = λ x. unused-transition t sound n x new;
+      new-open = unused-hold t sound n new;
       rows = rows-left t _ _ r blanks (fits-over sound _ s _ (λ p. rw st) (λ p f e. (f, e)) (still-some owner));
     }
 
--- refine puts the new machine m, with only its start node s, below node n, which keeps its transitions
+-- refine puts the new machine m, with only its start node s, below node n, which keeps its transitions and its hold
 pub record Refined (t : Tree) (n m s : ℕ) (u : Tree) (r q : Rows) : Type 0 where
   pub root : u .root ≡ t .root
   pub owner : Changed (t .owner) s (some m) (u .owner)
@@ -646,8 +683,10 @@ pub record Refined (t : Tree) (n m s : ℕ) (u : Tree) (r q : Rows) : Type 0 whe
   pub start : Changed (t .start) m (some s) (u .start)
   pub holder : Changed (t .holder) m (some n) (u .holder)
   pub transition : SameBoth (t .transition) (u .transition)
+  pub hold : Same (t .hold) (u .hold)
   pub new-plain : u .below s ≡ none
   pub new-free : (x : ℕ) → u .transition s x ≡ none
+  pub new-open : u .hold s ≡ 0
   pub new-only : (k : ℕ) → u .owner k ≡ some m → k ≡ s
   pub rows : RowsLeft u (λ p. (p ≡ m) ⊎ (over t p n ≡ true)) NoneGone NoneGone r q
 
@@ -673,8 +712,10 @@ refined t r n m s sound blanks ok =
       start = start;
       holder = changed (t .holder) m (some n);
       transition = λ k x. refl;
+      hold = λ k. refl;
       new-plain = below .elsewhere s apart-from ∙ unused-below t sound s (taken .first-new);
       new-free = λ x. unused-transition t sound s x (taken .first-new);
+      new-open = unused-hold t sound s (taken .first-new);
       new-only = only-first sound (taken .machine-new) owner;
       rows = rows-left t _ _ r blanks (record {
         test-true = λ p. ⊎-elim (λ same. rw (eq-eqb p m same)) (λ h. rw h (or-true (eqb p m)));
@@ -689,7 +730,7 @@ refined t r n m s sound blanks ok =
       });
     }
 
--- remove deletes node n, all below it, and the transitions into it
+-- remove deletes node n, all below it, their holds, and the transitions into it
 pub record Removed (t : Tree) (n : ℕ) (u : Tree) (r q : Rows) : Type 0 where
   pub root : u .root ≡ t .root
   pub itself : u .owner n ≡ none
@@ -705,6 +746,8 @@ pub record Removed (t : Tree) (n : ℕ) (u : Tree) (r q : Rows) : Type 0 where
   pub transition-into : (k x : ℕ) (a : Transition) → t .transition k x ≡ some a → a .target ≡ n → u .transition k x ≡ none
   pub transition-kept : (k x : ℕ) → within t n k ≡ false → ((a : Transition) → t .transition k x ≡ some a → a .target ≡ n → ⊥)
       → u .transition k x ≡ t .transition k x
+  pub hold-gone : (k : ℕ) → within t n k ≡ true → u .hold k ≡ 0
+  pub hold-kept : (k : ℕ) → within t n k ≡ false → u .hold k ≡ t .hold k
   pub rows : RowsLeft u (λ p. over t p n ≡ true) (HeldWithin t n) (λ k. within t n k ≡ true) r q
 
 -- whether a machine is held within a node, as a test
@@ -755,6 +798,8 @@ removed t r n sound blanks =
       transition-gone = λ k x w. rw w;
       transition-into = λ k x a e into. rw (into-gone n (t .transition k x) a e into) (unless-none (within t n k));
       transition-kept = λ k x w other. rw w (other-kept n (t .transition k x) other);
+      hold-gone = λ k w. rw w;
+      hold-kept = λ k w. rw w;
       rows = rows-left t _ _ r blanks (record {
         test-true = λ p h. h;
         test-false = λ p off. not-true-false off;
@@ -775,6 +820,7 @@ pub record OneTransition (t : Tree) (n x : ℕ) (o : Option Transition) (u : Tre
   pub holder : Same (t .holder) (u .holder)
   pub here : u .transition n x ≡ o
   pub elsewhere : (k y : ℕ) → ((k ≡ n) × (y ≡ x) → ⊥) → u .transition k y ≡ t .transition k y
+  pub hold : Same (t .hold) (u .hold)
   pub rows : RowsLeft u (λ p. over t p n ≡ true) NoneGone NoneGone r q
 
 -- a function of two numbers changed at one place
@@ -799,6 +845,7 @@ one-transition t r n x o sound blanks =
       holder = λ k. refl;
       here = both-here (t .transition) n x o;
       elsewhere = both-elsewhere (t .transition) n x o;
+      hold = λ k. refl;
       rows = rows-left t _ _ r blanks (fits-over sound _ n _ (λ p. refl) (λ p f e. (f, e)) (λ k p e. (p, e)));
     }
 
@@ -822,6 +869,7 @@ pub record Started (t : Tree) (n m : ℕ) (u : Tree) (r q : Rows) : Type 0 where
   pub start : Changed (t .start) m (some n) (u .start)
   pub holder : Same (t .holder) (u .holder)
   pub transition : SameBoth (t .transition) (u .transition)
+  pub hold : Same (t .hold) (u .hold)
   pub rows : RowsLeft u (λ p. over t p n ≡ true) NoneGone NoneGone r q
 
 pub started : (t : Tree) (r : Rows) (n m : ℕ) → Sound t → BlankRule t r → t .owner n ≡ some m
@@ -837,8 +885,35 @@ started t r n m sound blanks own =
       start = start;
       holder = λ k. refl;
       transition = λ k x. refl;
+      hold = λ k. refl;
       rows = rows-left t _ _ r blanks (fits-over sound _ n _ (λ p. refl) (still-some start) (λ k p e. (p, e)));
     })
+
+-- hold sets the hold of node n, and nothing else
+pub record HoldSet (t : Tree) (n b : ℕ) (u : Tree) (r q : Rows) : Type 0 where
+  pub root : u .root ≡ t .root
+  pub owner : Same (t .owner) (u .owner)
+  pub below : Same (t .below) (u .below)
+  pub start : Same (t .start) (u .start)
+  pub holder : Same (t .holder) (u .holder)
+  pub transition : SameBoth (t .transition) (u .transition)
+  pub hold : Changed (t .hold) n b (u .hold)
+  pub rows : RowsLeft u (λ p. over t p n ≡ true) NoneGone NoneGone r q
+
+pub hold-set : (t : Tree) (r : Rows) (n b : ℕ) → Sound t → BlankRule t r
+    → HoldSet t n b (edited t (Edit.hold n b)) r (editedRows t (Edit.hold n b) r)
+unfolding edited editedRows touches
+hold-set t r n b sound blanks =
+    record {
+      root = refl;
+      owner = λ k. refl;
+      below = λ k. refl;
+      start = λ k. refl;
+      holder = λ k. refl;
+      transition = λ k x. refl;
+      hold = changed (t .hold) n b;
+      rows = rows-left t _ _ r blanks (fits-over sound _ n _ (λ p. refl) (λ p f e. (f, e)) (λ k p e. (p, e)));
+    }
 
 -- crown makes the new machine m root; its one node n, the start, holds the old root
 pub record Crowned (t : Tree) (m n : ℕ) (u : Tree) (r q : Rows) : Type 0 where
@@ -848,7 +923,9 @@ pub record Crowned (t : Tree) (m n : ℕ) (u : Tree) (r q : Rows) : Type 0 where
   pub start : Changed (t .start) m (some n) (u .start)
   pub holder : Changed (t .holder) (t .root) (some n) (u .holder)
   pub transition : SameBoth (t .transition) (u .transition)
+  pub hold : Same (t .hold) (u .hold)
   pub new-free : (x : ℕ) → u .transition n x ≡ none
+  pub new-open : u .hold n ≡ 0
   pub new-only : (k : ℕ) → u .owner k ≡ some m → k ≡ n
   pub root-free : u .holder m ≡ none
   pub rows : RowsLeft u (λ p. p ≡ m) NoneGone NoneGone r q
@@ -869,7 +946,9 @@ crowned t r m n sound blanks ok =
       start = start;
       holder = holder;
       transition = λ k x. refl;
+      hold = λ k. refl;
       new-free = λ x. unused-transition t sound n x (taken .node-new);
+      new-open = unused-hold t sound n (taken .node-new);
       new-only = only-first sound (taken .machine-new) owner;
       root-free = holder .elsewhere m not-old ∙ unused-holder t sound m (taken .machine-new);
       rows = rows-left t _ _ r blanks (record {
@@ -933,6 +1012,7 @@ Does t (edit (Edit.arrow n x v c)) u r q = OneTransition t n x (some (record { t
 Does t (edit (Edit.clear n x)) u r q = OneTransition t n x none u r q
 Does t (edit (Edit.start n)) u r q = (m : ℕ) × (t .owner n ≡ some m) × Started t n m u r q
 Does t (edit (Edit.crown m n)) u r q = Crowned t m n u r q
+Does t (edit (Edit.hold n b)) u r q = HoldSet t n b u r q
 Does t refresh u r q = (u ≡ t) × Refilled t r q
 
 pub does : (t : Tree) (c : Command) (r q : Rows) → Sound t → BlankRule t r → refusal t c ≡ 0 → RowsAfter t c r q
@@ -949,4 +1029,5 @@ does t (edit (Edit.start n)) r q sound blanks ok e =
     let (m, own) = taken-start t n ok .node-used in
     (m, own, rw e (started t r n m sound blanks own))
 does t (edit (Edit.crown m n)) r q sound blanks ok e = rw e (crowned t r m n sound blanks ok)
+does t (edit (Edit.hold n b)) r q sound blanks ok e = rw e (hold-set t r n b sound blanks)
 does t refresh r q sound blanks ok f = (refreshed-tree t, refilled t r q blanks f)

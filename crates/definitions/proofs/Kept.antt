@@ -12,18 +12,18 @@ use lib.ListN.{drop}
 use borrow.Author.Tests.{eq-eqb, ne-eqb, eqb-false}
 use Rattle.definitions.specs.Basics.{_>>=_, unless, put, iterate, All}
 use Rattle.definitions.specs.Limits.{machines, nodes, commands, costs, levels}
-use Rattle.definitions.specs.Tree.{Tree, Transition, withRoot, withStartOf, Sound, parent, level, within}
-use Rattle.definitions.specs.Stream.{Edit, begin, add, refine, remove, arrow, clear, start, crown, Command, edit, refresh}
+use Rattle.definitions.specs.Tree.{Tree, Transition, withRoot, withNodeHold, withStartOf, Sound, parent, level, within}
+use Rattle.definitions.specs.Stream.{Edit, begin, add, refine, remove, arrow, clear, start, crown, hold, Command, edit, refresh}
 use Rattle.definitions.specs.Stream.{byteAt, pairAt, decode, taken}
-use Rattle.definitions.specs.Edit.{refusal, edited, single, heldWithin, without, withTransition, withStart, withMachine, withHeld, treeAfter}
+use Rattle.definitions.specs.Edit.{refusal, edited, HoldReleased, single, heldWithin, without, withTransition, withStart, withMachine, withHeld, treeAfter}
 use Rattle.definitions.specs.Load.{next, load, expected}
 use Rattle.definitions.specs.Demand.{Bytes}
-use Rattle.definitions.proofs.Options.{bind-some, present, none-some, some-same, true-false, equal-or-not, put-same, put-other}
+use Rattle.definitions.proofs.Options.{bind-some, present, none-some, some-same, unless-some, true-false, equal-or-not, put-same, put-other}
 use Rattle.definitions.proofs.Path.{Deep, at-root, under, deep, deep-small, level-deep}
-use Rattle.definitions.proofs.Words.{unused-below, unused-holder}
+use Rattle.definitions.proofs.Words.{same-tree, hold-zero, unused-below, unused-hold, unused-holder}
 use Rattle.definitions.proofs.Commands.{TakenBegin, taken-begin, TakenAdd, taken-add, TakenRefine, taken-refine}
 use Rattle.definitions.proofs.Commands.{TakenRemove, taken-remove, TakenArrow, taken-arrow, TakenStart, taken-start}
-use Rattle.definitions.proofs.Commands.{TakenCrown, taken-crown, within-top, within-up}
+use Rattle.definitions.proofs.Commands.{TakenCrown, taken-crown, TakenHold, taken-hold, hold-taken, within-top, within-up}
 use Rattle.definitions.proofs.Streams.{read-taken, next-taken, load-induction}
 
 -- ---- functions changed at one number, and values taken away
@@ -47,11 +47,6 @@ put-kept f k v new {n} e = put-other f k v n (λ same. none-some (ap f same ∙ 
 put-still : {A : Type 0} (f : ℕ → Option A) (k : ℕ) (v : A) (n : ℕ) {a : A} → f n ≡ some a → (b : A) × (put f k (some v) n ≡ some b)
 put-still f k v n {a} e =
     ⊎-elim (λ same. (v, put-here f k (some v) n same)) (λ other. (a, put-other f k (some v) n other ∙ e)) (equal-or-not n k)
-
--- what is left of a value
-unless-some : {A : Type 0} (b : Bool) (o : Option A) {a : A} → unless b o ≡ some a → (b ≡ false) × (o ≡ some a)
-unless-some true o e = absurd (none-some refl e)
-unless-some false o e = (refl, e)
 
 -- a value stays where the test does not hold
 unless-kept : {A : Type 0} {b : Bool} {o : Option A} {a : A} → b ≡ false → o ≡ some a → unless b o ≡ some a
@@ -129,6 +124,9 @@ single-sound {m} {n} k =
       held-used = λ p i e. absurd (none-some refl e);
       transition-range = λ i x a e. absurd (none-some refl e);
       transition-owned = λ i x a e. absurd (none-some refl e);
+      hold-range = λ i. omega arith;
+      hold-used = λ i e. absurd (omega arith);
+      hold-start = λ p f e. refl;
       climbs = λ p f e. (0, omega arith, deep-climbs (at-root (only m n p f e .0)));
     }
   where
@@ -162,6 +160,9 @@ add-sound {t} s {m} {n} k =
       transition-owned = λ i x a e.
           let (p, here, there) = s .transition-owned i x a e in
           (p, kept i p here, kept (a .target) p there);
+      hold-range = s .hold-range;
+      hold-used = λ i e. let (p, own) = s .hold-used i e in (p, kept i p own);
+      hold-start = s .hold-start;
       climbs = climbs-kept s (edited t (add m n)) refl (λ p h e. e) kept;
     }
 
@@ -228,6 +229,10 @@ grafted-sound {t} s root {m} {f} {b} {n} k used free climbs =
       transition-owned = λ i x a e.
           let (p, here, there) = s .transition-owned i x a e in
           (p, owners k i p here, owners k (a .target) p there);
+      hold-range = s .hold-range;
+      hold-used = λ i e. let (p, own) = s .hold-used i e in (p, owners k i p own);
+      hold-start = λ p i e.
+          ⊎-elim (λ new. rw (← new .1) (unused-hold t s f (k .node-new))) (s .hold-start p i) (put-some (t .start) m f p e);
       climbs = climbs;
     }
   where
@@ -310,6 +315,19 @@ deep-left {t} s n (under {h = h} held up way) off =
     let stays : within t n h ≡ false = rw held at off in
     under {h = h} (unless-kept off held) (unless-kept stays up) (deep-left s n way (kept-up s n up stays))
 
+-- what is left of a hold
+left-range : (b : Bool) {h : ℕ} → h < 2 → cond b 0 h < 2
+left-range true small = omega arith
+left-range false small = small
+
+left-one : (b : Bool) {h : ℕ} → cond b 0 h ≡ 1 → (b ≡ false) × (h ≡ 1)
+left-one true e = absurd (omega arith)
+left-one false e = (refl, e)
+
+left-zero : (b : Bool) {h : ℕ} → h ≡ 0 → cond b 0 h ≡ 0
+left-zero true e = refl
+left-zero false e = e
+
 -- the tree without a node that is not a start node
 pub remove-sound : {t : Tree} → Sound t → {n : ℕ} → TakenRemove t n → Sound (edited t (remove n))
 unfolding edited without
@@ -348,6 +366,12 @@ remove-sound {t} s {n} k =
           let (off, other, has) = transition i x a e in
           let (p, here, there) = s .transition-owned i x a has in
           (p, unless-kept off here, unless-kept (kept-down s n there other (kept-up s n here off)) there);
+      hold-range = λ i. left-range (within t n i) (s .hold-range i);
+      hold-used = λ i e.
+          let (off, one) = left-one (within t n i) e in
+          let (p, own) = s .hold-used i one in
+          (p, unless-kept off own);
+      hold-start = λ p f e. let (off, used) = machine p f e in left-zero (within t n f) (s .hold-start p f used);
       climbs = λ p f e.
           let (off, used) = machine p f e in
           let (j, small, way) = deep s used in
@@ -394,6 +418,9 @@ transition-sound {t} s n x o range owned =
       held-used = s .held-used;
       transition-range = λ i y a e. ⊎-elim (λ new. rw (new .1) (range a (new .2))) (s .transition-range i y a) (cases i y a e);
       transition-owned = λ i y a e. ⊎-elim (λ new. rw (new .0) (owned a (new .2))) (s .transition-owned i y a) (cases i y a e);
+      hold-range = s .hold-range;
+      hold-used = s .hold-used;
+      hold-start = s .hold-start;
       climbs = climbs-kept s (withTransition t n x o) refl (λ m h e. e) (λ i m e. e);
     }
   where
@@ -427,8 +454,8 @@ clear-sound s n x = transition-sound s n x none (λ a e. absurd (none-some refl 
 -- ---- start
 
 -- the tree with another start node of a machine
-restarted-sound : {t : Tree} → Sound t → {n m : ℕ} → t .owner n ≡ some m → Sound (withStartOf t m (some n))
-restarted-sound {t} s {n} {m} own =
+restarted-sound : {t : Tree} → Sound t → {n m : ℕ} → t .owner n ≡ some m → t .hold n ≡ 0 → Sound (withStartOf t m (some n))
+restarted-sound {t} s {n} {m} own free =
     record {
       root-used = let (f, used) = s .root-used in put-still (t .start) m n (t .root) used;
       root-free = s .root-free;
@@ -442,6 +469,9 @@ restarted-sound {t} s {n} {m} own =
       held-used = λ p i e. let (f, used) = s .held-used p i e in put-still (t .start) m n p used;
       transition-range = s .transition-range;
       transition-owned = s .transition-owned;
+      hold-range = s .hold-range;
+      hold-used = s .hold-used;
+      hold-start = λ p f e. ⊎-elim (λ new. rw (← new .1) free) (s .hold-start p f) (put-some (t .start) m n p e);
       climbs = λ p f e. let (g, used) = was p f e in climbs-kept s (withStartOf t m (some n)) refl (λ q h a. a) (λ i q a. a) p g used;
     }
   where
@@ -451,7 +481,40 @@ restarted-sound {t} s {n} {m} own =
 -- a node in use becomes the start of its machine
 pub start-sound : {t : Tree} → Sound t → {n : ℕ} → TakenStart t n → Sound (edited t (start n))
 unfolding edited withStart
-start-sound s k = let (m, own) = k .node-used in rw own (restarted-sound s own)
+start-sound {t} s {n} k = let (m, own) = k .node-used in rw own (restarted-sound s own (hold-zero t s n (k .not-on-hold)))
+
+-- ---- hold
+
+-- the tree with another hold of a node
+pub hold-sound : {t : Tree} → Sound t → {n b : ℕ} → TakenHold t n b → Sound (edited t (hold n b))
+unfolding edited
+hold-sound {t} s {n} {b} k =
+    record {
+      root-used = s .root-used;
+      root-free = s .root-free;
+      machine-range = s .machine-range;
+      node-range = s .node-range;
+      owner-used = s .owner-used;
+      start-owned = s .start-owned;
+      below-held = s .below-held;
+      held-below = s .held-below;
+      holder-used = s .holder-used;
+      held-used = s .held-used;
+      transition-range = s .transition-range;
+      transition-owned = s .transition-owned;
+      hold-range = λ i.
+          ⊎-elim (λ here. rw (put-here (t .hold) n b i here) (k .hold-range)) (λ away. rw (put-other (t .hold) n b i away) (s .hold-range i))
+          (equal-or-not i n);
+      hold-used = λ i e.
+          ⊎-elim (λ here. rw here (k .node-used)) (λ away. s .hold-used i (sym (put-other (t .hold) n b i away) ∙ e)) (equal-or-not i n);
+      hold-start = λ p f e.
+          ⊎-elim
+          (λ here.
+          let other : b ≡ 1 → ⊥ = λ one. k .no-start one p (rw here at (s .start-owned p f e)) (rw here at e) in
+          put-here (t .hold) n b f here ∙ omega (arith, k .hold-range))
+          (λ away. put-other (t .hold) n b f away ∙ s .hold-start p f e) (equal-or-not f n);
+      climbs = climbs-kept s (edited t (hold n b)) refl (λ m h e. e) (λ i m e. e);
+    }
 
 -- ---- all edits
 
@@ -465,6 +528,7 @@ CostInRange (arrow n x v c) = c < costs
 CostInRange (clear n x) = Unit
 CostInRange (start n) = Unit
 CostInRange (crown m n) = Unit
+CostInRange (hold n b) = Unit
 
 -- an edit that is taken leaves a sound tree sound
 pub edited-sound : {t : Tree} → Sound t → (e : Edit) → CostInRange e → refusal t (edit e) ≡ 0 → Sound (edited t e)
@@ -476,6 +540,26 @@ edited-sound {t} s (arrow n x v c) range ok = arrow-sound s (taken-arrow t n x v
 edited-sound {t} s (clear n x) range ok = clear-sound s n x
 edited-sound {t} s (start n) range ok = start-sound s (taken-start t n ok)
 edited-sound {t} s (crown m n) range ok = crown-sound s (taken-crown t m n ok)
+edited-sound {t} s (hold n b) range ok = hold-sound s (taken-hold t n b ok)
+
+-- a hold and its release give back the tree
+pub hold-released : HoldReleased
+unfolding edited
+hold-released t n s off ok =
+    let k = taken-hold t n 1 ok in
+    let free : refusal (withNodeHold t n 1) (edit (hold n 0)) ≡ 0 =
+    hold-taken (record {
+      node-range = k .node-range;
+      hold-range = omega arith;
+      node-used = k .node-used;
+      no-start = λ one. absurd (omega (arith, one));
+    }) in (
+      free,
+      same-tree _ t refl (λ i. refl) (λ i. refl) (λ i. refl) (λ i. refl) (λ i x. refl)
+          (λ i.
+          ⊎-elim (λ same. rw same (put-same (put (t .hold) n 1) n 0 ∙ sym (hold-zero t s n off)))
+          (λ other. put-other (put (t .hold) n 1) n 0 i other ∙ put-other (t .hold) n 1 i other) (equal-or-not i n)),
+    )
 
 -- ---- streams of bytes
 
@@ -522,7 +606,8 @@ decode-range op bytes h =
     (either-way W (eqb op 0x13) tt
     (either-way W (eqb op 0x14) (pair-small bytes h 5)
     (either-way W (eqb op 0x15) tt
-    (either-way W (eqb op 0x16) tt (either-way W (eqb op 0x17) tt (either-way W (eqb op 0x18) tt tt))))))))
+    (either-way W (eqb op 0x16) tt
+    (either-way W (eqb op 0x17) tt (either-way W (eqb op 0x18) tt (either-way W (eqb op 0x1A) tt tt)))))))))
 
 -- the rest of a list of bytes is one
 pub drop-bytes : (size : ℕ) (bytes : List ℕ) → Bytes bytes → Bytes (drop size bytes)

@@ -1,10 +1,10 @@
--- The mast book of document 01: its starred examples, by computing with the definitions; the claims of W-202 and W-203 on it; and that an
--- exit may end inside its machine. Assumes nothing.
+-- The mast book of document 01: its starred examples, by computing with the definitions; the claims of W-202, W-203 and W-205 on it; and that
+-- an exit may end inside its machine. Assumes nothing.
 use mathlib.Core.Path.{_≡_, refl, _∙_}
 use mathlib.Core.Logic.{inl, inr}
 use mathlib.Core.Bool.{false}
 use mathlib.Core.Option.{Option, none, some}
-use mathlib.Core.List.{List, [], _∷_}
+use mathlib.Core.List.{List, [], _∷_, _++_}
 use Prim.Native.Nat.{ℕ, zero, suc, _<_}
 use native.Mathlib.Omega.{arith}
 use lib.ListN.{getD}
@@ -18,7 +18,7 @@ use Rattle.definitions.specs.Costs.{LeastCost, ExitCost}
 use Rattle.definitions.specs.Book.{under, encode, treeOf}
 use Rattle.definitions.specs.Sheet.{Rows, encodeRows}
 use Rattle.definitions.specs.Truth.{nodeExit, move}
-use Rattle.definitions.specs.Stream.{operandLength, decode, readNext}
+use Rattle.definitions.specs.Stream.{hold, operandLength, decode, readNext}
 use Rattle.definitions.specs.Edit.{firstHolding, refusals, refusal, single, withTransition, edited}
 use Rattle.definitions.specs.Load.{next, loadF, load, expected}
 use Rattle.definitions.specs.Open.{freshTree, fresh, openTree}
@@ -28,7 +28,7 @@ use Rattle.definitions.specs.Demand.{Bytes}
 use Rattle.definitions.specs.Import.{took, ImportSays, Placed}
 use Rattle.definitions.specs.Mast.{mastStream, clearing, mastAfter, mastTree, RefusedWith16, MastExamples}
 use Rattle.definitions.proofs.Options.{none-some}
-use Rattle.definitions.proofs.Kept.{expected-sound}
+use Rattle.definitions.proofs.Kept.{hold-released, expected-sound}
 use Rattle.definitions.proofs.Opened.{open-sound}
 use Rattle.definitions.proofs.Tests.{allBelow, allUnder, listed, accounted, boundsTest, capped, freshRows, blankMachine, blankNode}
 use Rattle.definitions.proofs.Tests.{namedTest, chainTest, leftTest, endedTest, machineTest, reachedTest, nodeTest, rowsTest}
@@ -42,6 +42,14 @@ use Rattle.definitions.proofs.Imports.{import-loads}
 -- the stream that gives node 1 a transition to itself for command 2
 unfoldable pub looping : List ℕ
 looping = 0x14 ∷ 0x00 ∷ 0x01 ∷ 0x02 ∷ 0x00 ∷ 0x01 ∷ 0x00 ∷ 0x06 ∷ []
+
+-- the stream that gives it one to node 2 instead
+unfoldable pub passing : List ℕ
+passing = 0x14 ∷ 0x00 ∷ 0x01 ∷ 0x02 ∷ 0x00 ∷ 0x02 ∷ 0x00 ∷ 0x06 ∷ []
+
+-- the stream that gives node n the hold b
+abbrev pub holding : ℕ → ℕ → List ℕ
+holding n b = 0x1A ∷ 0x00 ∷ n ∷ b ∷ []
 
 -- ---- the costs of the states from state 0 and from state 11
 
@@ -60,6 +68,13 @@ without-1-1 = listed ((0, 0) ∷ (10, 5) ∷ (11, 9) ∷ (2, 20) ∷ [])
 
 without-both : ℕ → Option ℕ
 without-both = listed ((0, 0) ∷ (10, 5) ∷ (11, 9) ∷ [])
+
+-- from state 0 where node 11 is held, and from state 11 where node 1 is
+round-11 : ℕ → Option ℕ
+round-11 = listed ((0, 0) ∷ (10, 5) ∷ (2, 20) ∷ [])
+
+out-of-1 : ℕ → Option ℕ
+out-of-1 = listed ((11, 0) ∷ (2, 3) ∷ (0, 10) ∷ [])
 
 -- ---- the rows
 
@@ -93,14 +108,14 @@ mastRows = rowsFor (5 ∷ 0 ∷ 9 ∷ []) (1 ∷ 0 ∷ 1 ∷ [])
 loopRows : Rows
 loopRows = rowsFor (5 ∷ 0 ∷ 12 ∷ []) (1 ∷ 0 ∷ 2 ∷ [])
 
--- without the transitions of 1 for 1 and of 0 for 2: node 2 is not reached
+-- without the transitions of 1 for 1 and of 0 for 2, and where node 2 is held: node 2 is not reached
 clearedRows : Rows
 clearedRows = rowsWith (5 ∷ []) (1 ∷ []) ((0, 0) ∷ (1, 5) ∷ []) ((1, 0) ∷ []) ((1, 0) ∷ [])
 
 -- ---- to open these is to open everything that the examples compute with
 
 reading : Tree
-unfolding load loadF next expected operandLength decode readNext firstHolding refusals refusal level allUnder mastStream looping
+unfolding load loadF next expected operandLength decode readNext firstHolding refusals refusal level allUnder mastStream looping passing
 reading = freshTree
 
 editing : Tree
@@ -117,6 +132,7 @@ testing = freshTree
 
 tables : Tree
 unfolding two rowsWith rowsFor mastRows loopRows clearedRows from-0 from-11 without-10-1 without-1-1 without-both
+    round-11 out-of-1
 tables = freshTree
 
 computing : Tree
@@ -276,3 +292,54 @@ exit-with-loop = (
   tested-exit (mastAfter (looping ∷ [])) (after-sound (looping ∷ []) (omega arith)) loopRows refl 1 10 2 (some 4) refl (omega arith) refl,
   refl,
 )
+
+-- ---- holds (document 02, W-205)
+
+-- Node 10's transition for 2 leads to node 11, and node 1 above it has one too, to node 2. With a hold on node 11 the command climbs past the shut
+-- one: node 1 acts.
+pub climbs-past : (step (mastAfter (passing ∷ [])) 10 2 ≡ some (record { node = 11; cost = 4 }))
+    × (step (mastAfter (passing ∷ holding 11 1 ∷ [])) 10 2 ≡ some (record { node = 2; cost = 6 }))
+    × (acting (mastAfter (passing ∷ holding 11 1 ∷ [])) 10 2 ≡ some 1)
+unfolding computing
+climbs-past = (refl, refl, refl)
+
+-- with a hold on node 11 the plan from 0 to 2, at 12 by node 11, goes round it at 20
+pub plan-round : Plan (mastAfter (holding 11 1 ∷ [])) 0 2 20 (2 ∷ [])
+unfolding computing
+plan-round =
+    bound-plan (mastAfter (holding 11 1 ∷ [])) (after-sound (holding 11 1 ∷ []) (omega arith)) round-11 refl 0 (omega arith) refl 2 20 (2 ∷ []) refl
+    refl (omega arith)
+
+-- with a hold on node 2 it becomes 16
+pub plan-shut : RefusedWith16 (mastAfter (holding 2 1 ∷ [])) 0 2 3
+unfolding computing
+plan-shut =
+    let t : Tree = mastAfter (holding 2 1 ∷ []) in
+    let s : Sound t = after-sound (holding 2 1 ∷ []) (omega arith) in
+    record {
+      sheet = encodeRows (freshRows clearedRows);
+      sheet-true = tested-sheet t s clearedRows refl;
+      answer = tested-refused t s clearedRows refl 0 2 refl refl (bound-none t s without-both refl 0 (omega arith) refl 2 refl);
+    }
+
+-- with a hold on node 1 a plan that starts inside it leaves it; none comes back
+pub plan-out : Plan (mastAfter (holding 1 1 ∷ [])) 11 2 3 (1 ∷ []) × LeastCost (mastAfter (holding 1 1 ∷ [])) 11 10 none
+unfolding computing
+plan-out =
+    let t : Tree = mastAfter (holding 1 1 ∷ []) in
+    let s : Sound t = after-sound (holding 1 1 ∷ []) (omega arith) in (
+      bound-plan t s out-of-1 refl 11 (omega arith) refl 2 3 (1 ∷ []) refl refl (omega arith),
+      bound-none t s out-of-1 refl 11 (omega arith) refl 10 refl,
+    )
+
+-- a hold of 1 on a start node is 21, a hold of 0 there is taken; a held node does not become a start
+pub refused-21 : (load mastTree (holding 0 1) .number ≡ 21) × (load mastTree (holding 0 0) .number ≡ 0)
+    × (load mastTree (holding 2 1 ++ (0x16 ∷ 0x00 ∷ 0x02 ∷ [])) .number ≡ 21)
+    × (load mastTree (holding 2 1 ++ (0x16 ∷ 0x00 ∷ 0x02 ∷ [])) .bytes ≡ 4)
+unfolding computing
+refused-21 = (refl, refl, refl, refl)
+
+-- the hold of node 2 and its release
+pub mast-released : edited (edited mastTree (hold 2 1)) (hold 2 0) ≡ mastTree
+unfolding computing
+mast-released = hold-released mastTree 2 sound refl refl .1

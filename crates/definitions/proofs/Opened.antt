@@ -149,6 +149,11 @@ ladder-levels : reach 5 ≡ ladderMachines
 unfolding reach
 ladder-levels = refl
 
+-- no node of the ladder is held
+ladder-open : (n : ℕ) → ladderTree .hold n ≡ 0
+unfolding ladderTree
+ladder-open n = refl
+
 -- the tree of Open ladder is sound
 pub ladder-sound : Sound ladderTree
 ladder-sound =
@@ -173,6 +178,9 @@ ladder-sound =
             ⊎-elim (λ back. owner-ladder (a .target) (n / 3) (omega arith) (omega arith))
                 (λ on. owner-ladder (a .target) (n / 3) (omega arith) (omega arith)) sides,
           );
+      hold-range = λ n. rw (ladder-open n) (omega arith);
+      hold-used = λ n e. absurd (omega (arith, ladder-open n));
+      hold-start = λ m s e. ladder-open s;
       climbs = λ m s e.
           let (small, same) = ladder-start m s e in
           let (j, low, way) = ladder-deep 5 m (omega (arith, ladder-levels)) small in

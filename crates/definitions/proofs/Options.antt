@@ -9,7 +9,7 @@ use native.Mathlib.Nat.{lt-of-not-le}
 use native.Mathlib.Omega.{arith}
 use lib.Dec.{eqb}
 use borrow.Author.Tests.{eqb-true, eqb-false, eq-eqb, ne-eqb}
-use Rattle.definitions.specs.Basics.{_>>=_, iterate, isSome, isAt, put, Least}
+use Rattle.definitions.specs.Basics.{_>>=_, unless, iterate, isSome, isAt, put, Least}
 
 -- what a value bound to another was bound from
 pub bind-some : {A B : Type 0} (o : Option A) (f : A → Option B) {b : B} → (o >>= f) ≡ some b → (a : A) × (o ≡ some a) × (f a ≡ some b)
@@ -24,6 +24,11 @@ present (some a) = inr (a, refl)
 -- nothing is never something
 pub none-some : {A : Type 0} {o : Option A} {a : A} → o ≡ none → o ≡ some a → ⊥
 none-some p q = let z : _≡_ {A = ℕ} 0 1 = cc in omega arith
+
+-- what is left of a value
+pub unless-some : {A : Type 0} (b : Bool) (o : Option A) {a : A} → unless b o ≡ some a → (b ≡ false) × (o ≡ some a)
+unless-some true o e = absurd (none-some refl e)
+unless-some false o e = (refl, e)
 
 -- a test is true or false, never both
 pub decided : (b : Bool) → (b ≡ true) ⊎ (b ≡ false)

@@ -171,7 +171,7 @@ module _ (t : Tree) (s : Sound t) (r : Rows)
       (subst (λ (w : ℕ). (t .owner w ≡ some m → (d : ℕ) → r .cost w ≡ some d → Leads t m e w d)) same-node reach (name .owned) (name .node-cost) (name .reached)))
       k n way own-n c cost
 
-  -- a reached node that has no transition for x can be left by x, at its cost and its own exit cost
+  -- a reached node that has no transition that counts for x can be left by x, at its cost and its own exit cost
   had-from : {m f n : ℕ} (x c e : ℕ) → t .start m ≡ some f → r .stale m ≡ false → Lower m → x < commands → t .owner n ≡ some m → r .cost n ≡ some c
       → counting t n x ≡ none → nodeExit t r n x ≡ some e → Had t m x (c + e)
   had-from {m} {f} {n} x c e st full lower range own-n cost free exit =
@@ -220,7 +220,7 @@ module _ (t : Tree) (s : Sound t) (r : Rows)
       let (g, st) = s .held-used b u (s .below-held u b bel) in
       had x d st (filled-below b m (parent-below s own-u bel) full) range exit
 
-  -- every reached node of a filled row that has no transition for x can be left by x, at its cost and its own exit cost
+  -- every reached node of a filled row that has no transition that counts for x can be left by x, at its cost and its own exit cost
   pub had-at : {m f n : ℕ} (x c e : ℕ) → t .start m ≡ some f → r .stale m ≡ false → x < commands → t .owner n ≡ some m → r .cost n ≡ some c
       → counting t n x ≡ none → nodeExit t r n x ≡ some e → Had t m x (c + e)
   had-at x c e st full range own-n cost free exit = had-from x c e st full (lower full) range own-n cost free exit

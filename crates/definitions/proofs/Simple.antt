@@ -109,6 +109,20 @@ simple-run t top s (x ∷ xs) a e =
 
 -- ---- counting
 
+-- none below 0
+pub count-none : (p : ℕ → Bool) → countBelow 0 p ≡ 0
+unfolding countBelow
+count-none p = refl
+
+-- one more, where the number passes; as many, where it does not
+pub count-pass : (p : ℕ → Bool) (k : ℕ) → p k ≡ true → countBelow (suc k) p ≡ suc (countBelow k p)
+unfolding countBelow
+count-pass p k e = rw e (omega arith)
+
+pub count-skip : (p : ℕ → Bool) (k : ℕ) → p k ≡ false → countBelow (suc k) p ≡ countBelow k p
+unfolding countBelow
+count-skip p k e = rw e (omega arith)
+
 -- a test that passes wherever another does counts no less: at one number, and below a limit
 count-one : (a b : Bool) → (a ≡ true → b ≡ true) → cond {A = ℕ} a 1 0 ≤ cond b 1 0
 count-one true b h = rw (h refl) (omega arith)

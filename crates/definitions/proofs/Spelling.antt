@@ -1,7 +1,7 @@
 -- The bytes of a command: reading them gives the command back, whatever follows, and loading them does it. Assumes nothing.
 use mathlib.Core.Path.{_≡_, _∙_}
 use mathlib.Core.Option.{none}
-use mathlib.Core.List.{List, _∷_, _++_}
+use mathlib.Core.List.{List, [], _∷_, _++_}
 use Prim.Native.Nat.{ℕ}
 use native.Mathlib.Nat.{div-add-mod'}
 use native.Mathlib.Omega.{arith}
@@ -9,7 +9,7 @@ use lib.ListN.{length}
 use lib.Seq.{drop-append-seam}
 use borrow.Author.Tests.{le-leb}
 use Rattle.definitions.specs.Tree.{Tree}
-use Rattle.definitions.specs.Stream.{Edit, Command, edit, begin, add, refine, arrow, clear, taken, operandLength, decode, readNext}
+use Rattle.definitions.specs.Stream.{Edit, Command, edit, begin, add, refine, arrow, clear, hold, taken, operandLength, decode, readNext}
 use Rattle.definitions.specs.Edit.{refusal, edited}
 use Rattle.definitions.specs.Load.{Outcome, after, load}
 use Rattle.definitions.specs.Write.{pair, arrowBytes}
@@ -51,6 +51,11 @@ spells-arrow n x v c rest =
 pub spells-clear : (n x : ℕ) → Spells (edit (clear n x)) (settingBytes n x none)
 unfolding readNext operandLength decode
 spells-clear n x rest = rw (le-leb 3 (length (pair n ++ x ∷ rest)) (omega arith), div-add-mod' n 256)
+
+-- hold
+pub spells-hold : (n b : ℕ) → Spells (edit (hold n b)) (0x1A ∷ (pair n ++ b ∷ []))
+unfolding readNext operandLength decode
+spells-hold n b rest = rw (le-leb 3 (length (pair n ++ b ∷ rest)) (omega arith), div-add-mod' n 256)
 
 -- what becomes of a stream that is taken whole
 abbrev pub whole : List ℕ → List Command → Tree → Outcome

@@ -5,34 +5,36 @@ use mathlib.Core.Path.{_≡_, refl, sym, ap, ap₂, _∙_}
 use mathlib.Core.Logic.{_⊎_, inl, inr}
 use mathlib.Core.Bool.{Bool, true, false, cond}
 use mathlib.Core.Option.{Option, none, some}
-use mathlib.Core.List.{List, [], _∷_, append-nil}
+use mathlib.Core.List.{List, [], _∷_, _++_, append-nil}
 use Prim.Native.Nat.{ℕ, zero, suc, _+_, _*_, _-_, _/_, _%_, _≤_, _<_}
 use native.Mathlib.Nat.{zero-add, lt-of-not-le, div-add-mod'}
 use native.Mathlib.Decide.{decLe}
 use native.Mathlib.Omega.{arith}
 use lib.Dec.{eqb, ltb}
 use lib.ListN.{length, getD, length-append}
-use lib.Seq.{ext-getD}
-use borrow.Author.Tests.{ltb-true, ltb-false, lt-ltb, le-ltb, eqb-true, ne-eqb}
+use lib.Seq.{ext-getD, getD-append-add}
+use borrow.Author.Tests.{ltb-true, ltb-false, lt-ltb, le-ltb, eqb-true, eqb-false, ne-eqb}
 use Rattle.definitions.specs.Limits.{machines, nodes, commands, costs, bookLength, sheetLength, absent, blank}
-use Rattle.definitions.specs.Tree.{Tree, Transition, withRoot, withNodes, withMachines, Sound}
-use Rattle.definitions.specs.Book.{machineFields, nodeFields, machineBase, nodeBase, machineWords, nodeWords, encode}
+use Rattle.definitions.specs.Tree.{Tree, Transition, withRoot, withNodes, withMachines, onHold, Sound}
+use Rattle.definitions.specs.Book.{machineFields, nodeFields, machineBase, nodeBase, holdBase, machineWords, nodeWords, holdWords, encode}
 use Rattle.definitions.specs.Book.{word, transitionWord, machineField, nodeField, number, transitionOf, under}
-use Rattle.definitions.specs.Book.{machineWord, nodeWord, treeOf, WellFormed}
+use Rattle.definitions.specs.Book.{machineWord, nodeWord, holdWord, treeOf, WellFormed}
 use Rattle.definitions.specs.Sheet.{Rows, machineRowLength, nodeRowLength, nodeRowBase, machineRows, nodeRows, encodeRows}
 use Rattle.definitions.specs.Sheet.{costWord, staleWord, machineRow, nodeRow, costOf, machineRowWord, nodeRowWord, rowsOf}
-use Rattle.definitions.proofs.Lists.{table-length, section-at, section-same, no-value}
+use Rattle.definitions.proofs.Lists.{tabulate-length, tabulate-at, table-length, section-at, section-same, no-value}
 use Rattle.definitions.proofs.Options.{none-some}
 
 -- ---- how long the layouts are
 
--- a book has 4,737 words
+-- a book has 4,993 words
 pub encode-length : (t : Tree) → length (encode t) ≡ bookLength
-unfolding encode machineWords nodeWords
+unfolding encode machineWords nodeWords holdWords
 encode-length t =
     ap suc
-    (length-append (machineWords t) (nodeWords t)
-    ∙ ap₂ _+_ (table-length machineFields machines (machineField t)) (table-length nodeFields nodes (nodeField t)))
+    (length-append (machineWords t) (nodeWords t ++ holdWords t)
+    ∙ ap₂ _+_ (table-length machineFields machines (machineField t))
+    (length-append (nodeWords t) (holdWords t)
+    ∙ ap₂ _+_ (table-length nodeFields nodes (nodeField t)) (tabulate-length nodes (t .hold))))
 
 -- a sheet has 2,880 words
 pub encodeRows-length : (r : Rows) → length (encodeRows r) ≡ sheetLength
@@ -51,15 +53,26 @@ root-word t = refl
 -- the words of a machine are its fields
 pub machine-word : (t : Tree) (m k : ℕ) → m < machines → k < machineFields → machineWord (encode t) m k ≡ machineField t m k
 unfolding encode machineWords machineWord
-machine-word t m k hm hk = section-at machineFields machines (machineField t) (t .root ∷ []) (nodeWords t) machineBase m k 0 refl hm hk
+machine-word t m k hm hk = section-at machineFields machines (machineField t) (t .root ∷ []) (nodeWords t ++ holdWords t) machineBase m k 0 refl hm hk
 
 -- the words of a node are its fields
 pub node-word : (t : Tree) (n k : ℕ) → n < nodes → k < nodeFields → nodeWord (encode t) n k ≡ nodeField t n k
 unfolding encode machineWords nodeWords nodeWord
 node-word t n k hn hk =
-    rw append-nil at
-    (section-at nodeFields nodes (nodeField t) (t .root ∷ machineWords t) [] nodeBase n k 0
-    (ap suc (table-length machineFields machines (machineField t))) hn hk)
+    section-at nodeFields nodes (nodeField t) (t .root ∷ machineWords t) (holdWords t) nodeBase n k 0
+    (ap suc (table-length machineFields machines (machineField t))) hn hk
+
+-- the last words are the holds
+pub hold-word : (t : Tree) (n : ℕ) → n < nodes → holdWord (encode t) n ≡ t .hold n
+unfolding encode machineWords nodeWords holdWords holdWord
+hold-word t n hn =
+    let head : List ℕ = t .root ∷ machineWords t in
+    let at : holdBase + n ≡ length head + (length (nodeWords t) + n) =
+    omega (arith, table-length machineFields machines (machineField t), table-length nodeFields nodes (nodeField t)) in
+    rw at
+    (getD-append-add head (nodeWords t ++ holdWords t) (length (nodeWords t) + n) 0
+    ∙ getD-append-add (nodeWords t) (holdWords t) n 0
+    ∙ tabulate-at nodes (t .hold) n 0 hn)
 
 -- the words of a machine's row are what the row says
 pub machine-row-word : (r : Rows) (m k : ℕ) → m < machines → k < machineRowLength → machineRowWord (encodeRows r) m k ≡ machineRow r m k
@@ -77,21 +90,27 @@ node-row-word r n k hn hk =
 
 -- ---- the words fix the list
 
--- a book is fixed by its root word, its machines' words and its nodes' words
+-- a book is fixed by its root word, its machines' words, its nodes' words and its holds
 pub book-words : (v w : List ℕ) → length v ≡ bookLength → length w ≡ bookLength → getD v 0 0 ≡ getD w 0 0
     → ((m k : ℕ) → m < machines → k < machineFields → machineWord v m k ≡ machineWord w m k)
     → ((n k : ℕ) → n < nodes → k < nodeFields → nodeWord v n k ≡ nodeWord w n k)
+    → ((n : ℕ) → n < nodes → holdWord v n ≡ holdWord w n)
     → v ≡ w
-unfolding machineWord nodeWord
-book-words v w lv lw root machine node = ext-getD 0 v w (lv ∙ sym lw) at
+unfolding machineWord nodeWord holdWord
+book-words v w lv lw root machine node hold = ext-getD 0 v w (lv ∙ sym lw) at
   where
     at : (j : ℕ) → j < length v → getD v j 0 ≡ getD w j 0
     at zero h = root
     at (suc j) h =
-        elim (decLe nodeBase (suc j)) [
-          | yes past ↦ section-same nodeFields nodes nodeBase v w 0 node (suc j) past (omega arith)
-          | no before ↦
-              section-same machineFields machines machineBase v w 0 machine (suc j) (omega arith) (omega (arith, lt-of-not-le before))
+        elim (decLe holdBase (suc j)) [
+          | yes behind ↦
+              let here : holdBase + (suc j - holdBase) ≡ suc j = omega arith in
+              rw here at (hold (suc j - holdBase) (omega arith))
+          | no inside ↦ elim (decLe nodeBase (suc j)) [
+            | yes past ↦ section-same nodeFields nodes nodeBase v w 0 node (suc j) past (omega (arith, lt-of-not-le inside))
+            | no before ↦
+                section-same machineFields machines machineBase v w 0 machine (suc j) (omega arith) (omega (arith, lt-of-not-le before))
+          ]
         ]
 
 -- a sheet is fixed by its machines' rows and its nodes' rows
@@ -118,11 +137,13 @@ sheet-words v w lv lw machine node = ext-getD 0 v w (lv ∙ sym lw) at
 pub encode-is : (ws : List ℕ) (t : Tree) → length ws ≡ bookLength → getD ws 0 0 ≡ t .root
     → ((m k : ℕ) → m < machines → k < machineFields → machineWord ws m k ≡ machineField t m k)
     → ((n k : ℕ) → n < nodes → k < nodeFields → nodeWord ws n k ≡ nodeField t n k)
+    → ((n : ℕ) → n < nodes → holdWord ws n ≡ t .hold n)
     → ws ≡ encode t
-encode-is ws t l root machine node =
+encode-is ws t l root machine node hold =
     book-words ws (encode t) l (encode-length t) (root ∙ sym (root-word t))
     (λ m k hm hk. machine m k hm hk ∙ sym (machine-word t m k hm hk))
     (λ n k hn hk. node n k hn hk ∙ sym (node-word t n k hn hk))
+    (λ n hn. hold n hn ∙ sym (hold-word t n hn))
 
 -- and a list that has the length of rows and each of their words is theirs
 pub encodeRows-is : (ws : List ℕ) (r : Rows) → length ws ≡ sheetLength
@@ -272,17 +293,20 @@ mark-is limit i w b same inside = go (ltb i limit) b refl same inside
 -- two trees with the same root and the same fields at every number are one tree
 pub same-tree : (t u : Tree) → t .root ≡ u .root → ((n : ℕ) → t .owner n ≡ u .owner n) → ((n : ℕ) → t .below n ≡ u .below n)
     → ((m : ℕ) → t .start m ≡ u .start m) → ((m : ℕ) → t .holder m ≡ u .holder m)
-    → ((n x : ℕ) → t .transition n x ≡ u .transition n x) → t ≡ u
-same-tree t u root owner below start holder transition =
+    → ((n x : ℕ) → t .transition n x ≡ u .transition n x) → ((n : ℕ) → t .hold n ≡ u .hold n) → t ≡ u
+same-tree t u root owner below start holder transition hold =
     λ i.
     withRoot
-    (withMachines (withNodes t (λ n. owner n i) (λ n. below n i) (λ n x. transition n x i)) (λ m. start m i) (λ m. holder m i))
+    (withMachines (withNodes t (λ n. owner n i) (λ n. below n i) (λ n x. transition n x i) (λ n. hold n i)) (λ m. start m i)
+    (λ m. holder m i))
     (root i)
 
 -- two trees that differ at most in what they say of nodes, and say the same of every node, are one tree
-pub same-nodes : (t u : Tree) → withNodes t (u .owner) (u .below) (u .transition) ≡ u → ((n : ℕ) → t .owner n ≡ u .owner n)
-    → ((n : ℕ) → t .below n ≡ u .below n) → ((n x : ℕ) → t .transition n x ≡ u .transition n x) → t ≡ u
-same-nodes t u rest owner below transition = (λ i. withNodes t (λ n. owner n i) (λ n. below n i) (λ n x. transition n x i)) ∙ rest
+pub same-nodes : (t u : Tree) → withNodes t (u .owner) (u .below) (u .transition) (u .hold) ≡ u → ((n : ℕ) → t .owner n ≡ u .owner n)
+    → ((n : ℕ) → t .below n ≡ u .below n) → ((n x : ℕ) → t .transition n x ≡ u .transition n x)
+    → ((n : ℕ) → t .hold n ≡ u .hold n) → t ≡ u
+same-nodes t u rest owner below transition hold =
+    (λ i. withNodes t (λ n. owner n i) (λ n. below n i) (λ n x. transition n x i) (λ n. hold n i)) ∙ rest
 
 -- and so are two that differ at most in what they say of machines
 pub same-machines : (t u : Tree) → withMachines t (u .start) (u .holder) ≡ u → ((m : ℕ) → t .start m ≡ u .start m)
@@ -365,7 +389,14 @@ module _ (t : Tree) (s : Sound t) where
       let own = s .holder-used m n (s .below-held n m f) in
       none-some e (own .1))
 
-  -- a node that is not in use has no transition
+  -- a node that is not held has the hold 0, and one that is not in use has it
+  pub hold-zero : (n : ℕ) → onHold t n ≡ false → t .hold n ≡ 0
+  hold-zero n off = let other : t .hold n ≡ 1 → ⊥ = eqb-false (t .hold n) 1 off in omega (arith, s .hold-range n)
+
+  pub unused-hold : (n : ℕ) → t .owner n ≡ none → t .hold n ≡ 0
+  unused-hold n e = hold-zero n (ne-eqb (t .hold n) 1 (λ one. none-some e (s .hold-used n one .1)))
+
+  -- and it has no transition
   pub unused-transition : (n x : ℕ) → t .owner n ≡ none → t .transition n x ≡ none
   unused-transition n x e =
       no-value (t .transition n x)
@@ -400,8 +431,15 @@ treeOf-encode t s =
     (λ m.
     number-is machines m (machineWord (encode t) m 0) (t .holder m) (λ h. machine-word t m 0 h (omega arith))
     (λ n e. omega (arith, holder-range t s m n e)))
-    transition
+    transition hold
   where
+    hold : (n : ℕ) → cond (ltb n nodes) (holdWord (encode t) n) 0 ≡ t .hold n
+    hold n = go (ltb n nodes) refl
+      where
+        go : (b : Bool) → ltb n nodes ≡ b → cond b (holdWord (encode t) n) 0 ≡ t .hold n
+        go true e = hold-word t n (ltb-true n nodes e)
+        go false e = sym (unused-hold t s n (no-value (t .owner n) (λ m own. omega (arith, s .node-range n m own, ltb-false n nodes e))))
+
     transition : (n x : ℕ) → under nodes n (under commands x (transitionOf (nodeWord (encode t) n (2 + x)))) ≡ t .transition n x
     transition n x =
         under-is nodes n (under commands x (transitionOf (nodeWord (encode t) n (2 + x)))) (t .transition n x)
@@ -441,12 +479,18 @@ treeOf-node ws n (suc (suc x)) hn hk =
     let hx : x < commands = omega arith in
     simp (at, under-in, word-transition)
 
--- any list of 4,737 words is the encoding of the tree that it holds
+-- and for every hold
+pub treeOf-hold : (ws : List ℕ) (n : ℕ) → n < nodes → treeOf ws .hold n ≡ holdWord ws n
+unfolding treeOf
+treeOf-hold ws n hn = rw (lt-ltb n nodes hn)
+
+-- any list of 4,993 words is the encoding of the tree that it holds
 pub encode-treeOf : (ws : List ℕ) → length ws ≡ bookLength → encode (treeOf ws) ≡ ws
 unfolding treeOf
 encode-treeOf ws l =
     sym
-    (encode-is ws (treeOf ws) l refl (λ m k hm hk. sym (treeOf-machine ws m k hm hk)) (λ n k hn hk. sym (treeOf-node ws n k hn hk)))
+    (encode-is ws (treeOf ws) l refl (λ m k hm hk. sym (treeOf-machine ws m k hm hk)) (λ n k hn hk. sym (treeOf-node ws n k hn hk))
+    (λ n hn. sym (treeOf-hold ws n hn)))
 
 -- a well-formed book is the encoding of its tree
 pub well-formed-words : (ws : List ℕ) → WellFormed ws → encode (treeOf ws) ≡ ws

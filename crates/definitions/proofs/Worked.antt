@@ -9,7 +9,7 @@ use lib.ListN.{length}
 use Rattle.definitions.specs.Basics.{anyOf, anyBelow}
 use Rattle.definitions.specs.Tree.{Tree, Transition, above, pathF, path, level, within, over}
 use Rattle.definitions.specs.Sheet.{Rows}
-use Rattle.definitions.specs.Stream.{Command, begin, add, refine, remove, arrow, clear, start, crown, edit, refresh, operandLength, decode, readNext}
+use Rattle.definitions.specs.Stream.{Command, begin, add, refine, remove, arrow, clear, start, crown, hold, edit, refresh, operandLength, decode, readNext}
 use Rattle.definitions.specs.Edit.{firstHolding, refusals, refusal, single, without, withTransition, withStart, edited, touches, withStale, editedRows}
 use Rattle.definitions.specs.Load.{next, Outcome, loadF, load, expected}
 use Rattle.definitions.specs.Open.{freshTree, openRows}
@@ -358,6 +358,9 @@ pub record Marks : Type 0 where
   pub arrow-exits : exits (editedRows branches (arrow 10 0 11 5) calm) ≡ none ∷ none ∷ some 1 ∷ some 1 ∷ none ∷ none ∷ []
   pub arrow-costs : nodeCosts (editedRows branches (arrow 10 0 11 5) calm)
       ≡ none ∷ none ∷ none ∷ none ∷ none ∷ some 1 ∷ some 1 ∷ none ∷ []
+  -- the hold of a node of machine 1, and of one of machine 3: as a transition there
+  pub hold-marks : marks (editedRows branches (hold 11 1) calm) ≡ true ∷ true ∷ false ∷ false ∷ false ∷ false ∷ []
+  pub hold-low-marks : marks (editedRows branches (hold 30 0) calm) ≡ true ∷ true ∷ false ∷ true ∷ false ∷ false ∷ []
   -- also where nothing differs
   pub clear-marks : marks (editedRows branches (clear 10 0) calm) ≡ true ∷ true ∷ false ∷ false ∷ false ∷ false ∷ []
   pub start-marks : marks (editedRows branches (start 10) calm) ≡ true ∷ true ∷ false ∷ false ∷ false ∷ false ∷ []

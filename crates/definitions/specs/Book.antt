@@ -1,4 +1,5 @@
--- Document 01, "Book and sheet in memory": the 4,737 words of a book, section by section, and when a book is well formed.
+-- Document 01, "Book and sheet in memory", with document 02's holds (W-205): the 4,993 words of a book, section by section, and when a book
+-- is well formed.
 use mathlib.Core.Path.{_≡_}
 use mathlib.Core.Bool.{cond}
 use mathlib.Core.Option.{Option, none, some}
@@ -37,23 +38,29 @@ machineFields = 2
 abbrev pub nodeFields : ℕ
 nodeFields = 18
 
--- where the machines' words and the nodes' words begin
+-- where the machines' words, the nodes' words and the holds begin
 abbrev pub machineBase : ℕ
 machineBase = 1
 
 abbrev pub nodeBase : ℕ
 nodeBase = 129
 
--- the sections of a book: the root, the machines, the nodes
+abbrev pub holdBase : ℕ
+holdBase = 4737
+
+-- the sections of a book: the root, the machines, the nodes, and at its end the holds (document 02, W-205)
 unfoldable pub machineWords : Tree → List ℕ
 machineWords t = tabulate (machines * machineFields) (λ i. machineField t (i / machineFields) (i % machineFields))
 
 unfoldable pub nodeWords : Tree → List ℕ
 nodeWords t = tabulate (nodes * nodeFields) (λ i. nodeField t (i / nodeFields) (i % nodeFields))
 
+unfoldable pub holdWords : Tree → List ℕ
+holdWords t = tabulate nodes (t .hold)
+
 -- the words of a tree (document 01: the book)
 unfoldable pub encode : Tree → List ℕ
-encode t = t .root ∷ (machineWords t ++ nodeWords t)
+encode t = t .root ∷ (machineWords t ++ (nodeWords t ++ holdWords t))
 
 -- what a word says: a number, a transition, or that it is absent
 unfoldable pub number : ℕ → Option ℕ
@@ -73,6 +80,10 @@ machineWord ws m k = getD ws (machineBase + m * machineFields + k) 0
 unfoldable pub nodeWord : List ℕ → ℕ → ℕ → ℕ
 nodeWord ws n k = getD ws (nodeBase + n * nodeFields + k) 0
 
+-- the hold of node n
+unfoldable pub holdWord : List ℕ → ℕ → ℕ
+holdWord ws n = getD ws (holdBase + n) 0
+
 -- the tree that a book's words hold
 unfoldable pub treeOf : List ℕ → Tree
 treeOf ws =
@@ -83,9 +94,11 @@ treeOf ws =
       start = λ m. under machines m (number (machineWord ws m 1));
       holder = λ m. under machines m (number (machineWord ws m 0));
       transition = λ n x. under nodes n (under commands x (transitionOf (nodeWord ws n (2 + x))));
+      hold = λ n. cond (ltb n nodes) (holdWord ws n) 0;
     }
 
--- a book is well formed: it has as many words as a book has, and its tree is sound (so unused records are empty)
+-- a book is well formed: it has as many words as a book has, and its tree is sound (so unused records are empty, and no start node is
+-- held: document 02, W-205)
 pub record WellFormed (ws : List ℕ) : Type 0 where
   pub length : length ws ≡ bookLength
   pub sound : Sound (treeOf ws)

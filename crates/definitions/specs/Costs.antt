@@ -1,4 +1,5 @@
--- Document 01: the least cost from a state to a state, and the exit charge of a machine.
+-- Document 01: the least cost from a state to a state, and the exit charge of a machine. Both are over the transitions that no hold shuts, since the
+-- step and the climb are (document 02, W-205).
 use mathlib.Core.Path.{_≡_}
 use mathlib.Core.Option.{Option, none, some}
 use mathlib.Core.List.{List}

@@ -1,4 +1,5 @@
--- The customer's demands 2 (its last clause) and 3, each as one statement; and document 01's bounds on what Plan and Write give.
+-- The customer's demands 2 (its last clause) and 3, each as one statement; and the bounds on what Plan and Write give (document 01; Write's is
+-- document 02's, W-205).
 use mathlib.Core.Path.{_≡_}
 use mathlib.Core.Logic.{_⊎_}
 use mathlib.Core.Bool.{true}
@@ -81,6 +82,6 @@ PlanBounds =
     (t : Tree) → Sound t → (a b cost : ℕ) (list : List ℕ) → isState t a ≡ true → Plan t a b cost list
     → (length list ≤ states t - 1) × (cost ≤ largestPlanCost)
 
--- Write's stream has at most 33,918 bytes
+-- Write's stream has at most 34,812 bytes (document 02, W-205, in place of document 01's number)
 abbrev pub WriteBound : Type 0
 WriteBound = (t : Tree) → Sound t → length (written t) ≤ longestStream

@@ -1,18 +1,18 @@
--- Document 01, "Loading a stream": the refusals 6 to 12 of each command, what it does to the tree, and which rows it marks and
--- blanks. The same definitions make Load's promise and the expected station of demand 3.
+-- Document 01, "Loading a stream", with document 02's holds (W-205): the refusals 6 to 12 and 21 of each command, what it does to the tree,
+-- and which rows it marks and blanks. The same definitions make Load's promise and the expected station of demand 3.
 use mathlib.Core.Path.{_≡_}
 use mathlib.Core.Bool.{Bool, true, false, cond, not, _&&_, _||_}
 use mathlib.Core.Option.{Option, none, some}
 use mathlib.Core.List.{List, [], _∷_}
 use Prim.Native.Nat.{ℕ}
 use lib.Dec.{eqb, ltb}
-use Rattle.definitions.specs.Basics.{_>>=_, option, unless, isSome, isAt, put, anyBelow}
+use Rattle.definitions.specs.Basics.{option, unless, isSome, isAt, put, anyBelow}
 use Rattle.definitions.specs.Limits.{machines, nodes, commands, levels}
-use Rattle.definitions.specs.Tree.{Tree, Transition, withRoot, withOwner, withBelow, withTransitions, withStartOf, withHolder}
-use Rattle.definitions.specs.Tree.{usedMachine, usedNode, level, within, over}
+use Rattle.definitions.specs.Tree.{Tree, Transition, withRoot, withOwner, withBelow, withTransitions, withNodeHold, withStartOf, withHolder}
+use Rattle.definitions.specs.Tree.{usedMachine, usedNode, onHold, level, within, over, unlessInto, Sound}
 use Rattle.definitions.specs.Sheet.{Rows}
 use Rattle.definitions.specs.Truth.{TrueRows}
-use Rattle.definitions.specs.Stream.{Edit, begin, add, refine, remove, arrow, clear, start, crown, Command, edit, refresh}
+use Rattle.definitions.specs.Stream.{Edit, begin, add, refine, remove, arrow, clear, start, crown, hold, Command, edit, refresh}
 
 infix 5 _when_
 -- a number that a command is refused with, and the test for it
@@ -24,7 +24,7 @@ unfoldable pub firstHolding : List Test → ℕ
 firstHolding [] = 0
 firstHolding ((k when b) ∷ rest) = cond b k (firstHolding rest)
 
--- a machine, a node, a command that is out of range
+-- a machine, a node, a command, a hold that is out of range
 abbrev pub badMachine : ℕ → Bool
 badMachine m = not (ltb m machines)
 
@@ -33,6 +33,9 @@ badNode n = not (ltb n nodes)
 
 abbrev pub badCommand : ℕ → Bool
 badCommand x = not (ltb x commands)
+
+abbrev pub badHold : ℕ → Bool
+badHold b = not (ltb b 2)
 
 -- whether a node is the start node of its machine
 abbrev pub isStart : Tree → ℕ → Bool
@@ -51,7 +54,8 @@ abbrev pub anyLowest : Tree → Bool
 anyLowest t = anyBelow nodes (lowest t)
 
 -- the refusals of each command in their order: 6 (number out of range), 7 (machine or node not in use), 8 (new number in use),
--- 9 (already refined), 10 (a start node), 11 (target in another machine), 12 (over 8 levels)
+-- 9 (already refined), 10 (a start node), 11 (target in another machine), 12 (over 8 levels); 21 (document 02, W-205: a hold of 1 on a start
+-- node, or a held node made a start), after 7. A hold is 1 or 0; another byte is 6
 unfoldable pub refusals : Tree → Edit → List Test
 refusals t (begin m n) = (6 when (badMachine m || badNode n)) ∷ []
 refusals t (add m n) =
@@ -63,16 +67,18 @@ refusals t (remove n) = (6 when badNode n) ∷ (7 when not (usedNode t n)) ∷ (
 refusals t (arrow n x v c) =
     (6 when (badNode n || badCommand x || badNode v)) ∷ (7 when (not (usedNode t n) || not (usedNode t v))) ∷ (11 when apart t n v) ∷ []
 refusals t (clear n x) = (6 when (badNode n || badCommand x)) ∷ (7 when not (usedNode t n)) ∷ []
-refusals t (start n) = (6 when badNode n) ∷ (7 when not (usedNode t n)) ∷ []
+refusals t (start n) = (6 when badNode n) ∷ (7 when not (usedNode t n)) ∷ (21 when onHold t n) ∷ []
 refusals t (crown m n) =
     (6 when (badMachine m || badNode n)) ∷ (8 when (usedMachine t m || usedNode t n)) ∷ (12 when anyLowest t) ∷ []
+refusals t (hold n b) =
+    (6 when (badNode n || badHold b)) ∷ (7 when not (usedNode t n)) ∷ (21 when (eqb b 1 && isStart t n)) ∷ []
 
 -- the number that a command is refused with; 0 where it is taken
 unfoldable pub refusal : Tree → Command → ℕ
 refusal t (edit e) = firstHolding (refusals t e)
 refusal t refresh = 0
 
--- one machine, as root, with one node, its start
+-- one machine, as root, with one node, its start; nothing is held (document 02, W-205)
 unfoldable pub single : ℕ → ℕ → Tree
 single m n =
     record {
@@ -82,13 +88,14 @@ single m n =
       start = put (λ k. none) m (some n);
       holder = λ k. none;
       transition = λ k x. none;
+      hold = λ k. 0;
     }
 
 -- whether a machine is held by node n or by a node below it
 abbrev pub heldWithin : Tree → ℕ → ℕ → Bool
 heldWithin t n m = option false (within t n) (t .holder m)
 
--- the tree without node n, all below it, and the transitions into it
+-- the tree without node n, all below it, their holds (document 02, W-205), and the transitions into it
 unfoldable pub without : Tree → ℕ → Tree
 without t n =
     record {
@@ -97,7 +104,8 @@ without t n =
       below = λ k. unless (within t n k) (t .below k);
       start = λ m. unless (heldWithin t n m) (t .start m);
       holder = λ m. unless (heldWithin t n m) (t .holder m);
-      transition = λ k x. unless (within t n k) (t .transition k x >>= λ a. unless (eqb (a .target) n) (some a));
+      transition = λ k x. unless (within t n k) (unlessInto (λ v. eqb v n) (t .transition k x));
+      hold = λ k. cond (within t n k) 0 (t .hold k);
     }
 
 -- the tree with o as the transition of node n for x
@@ -116,9 +124,9 @@ withMachine t m n = withStartOf (withOwner t n (some m)) m (some n)
 abbrev pub withHeld : Tree → ℕ → ℕ → Tree
 withHeld t n m = withHolder (withBelow t n (some m)) m (some n)
 
--- The tree after an edit that is taken. A number that is not in use holds nothing, has no transitions and owns no node (Sound), so a
--- new node has no transitions and, but for crown's, is plain, and a new machine has only its start node. A refined node keeps its
--- transitions.
+-- The tree after an edit that is taken. A number that is not in use has no machine below it, no transitions, no hold and no nodes (Sound),
+-- so a new node has no transitions and no hold and, but for crown's, is plain, and a new machine has only its start node. A refined node
+-- keeps its transitions and its hold. 0x1A sets the hold (document 02, W-205).
 unfoldable pub edited : Tree → Edit → Tree
 edited t (begin m n) = single m n
 edited t (add m n) = withOwner t n (some m)
@@ -128,13 +136,22 @@ edited t (arrow n x v c) = withTransition t n x (some (record { target = v; cost
 edited t (clear n x) = withTransition t n x none
 edited t (start n) = withStart t n
 edited t (crown m n) = withRoot (withHeld (withMachine t m n) n (t .root)) m
+edited t (hold n b) = withNodeHold t n b
 
 -- the tree after a command that is taken; a refresh changes nothing
 abbrev pub treeAfter : Tree → Command → Tree
 treeAfter t (edit e) = edited t e
 treeAfter t refresh = t
 
--- whether an edit marks machine p: new machines, the machine edited and all above it; crown marks only the new root
+-- a hold and its release (document 02, W-205): where 0x1A 1 is taken on a node that is not held, 0x1A 0 is taken after it and gives back the
+-- tree
+abbrev pub HoldReleased : Type 0
+HoldReleased =
+    (t : Tree) (n : ℕ) → Sound t → onHold t n ≡ false → refusal t (edit (hold n 1)) ≡ 0
+    → (refusal (edited t (hold n 1)) (edit (hold n 0)) ≡ 0) × (edited (edited t (hold n 1)) (hold n 0) ≡ t)
+
+-- whether an edit marks machine p: new machines, the machine edited and all above it; crown marks only the new root; a hold marks as a
+-- transition's edit does (document 02, W-205)
 unfoldable pub touches : Tree → Edit → ℕ → Bool
 touches t (begin m n) p = eqb p m
 touches t (add m n) p = option false (over t p) (t .start m)
@@ -144,6 +161,7 @@ touches t (arrow n x v c) p = over t p n
 touches t (clear n x) p = over t p n
 touches t (start n) p = over t p n
 touches t (crown m n) p = eqb p m
+touches t (hold n b) p = over t p n
 
 -- the rows where the machines in use that pass the test are marked and blanked, and unused machines and nodes are blank, mark 0
 unfoldable pub withStale : Tree → (ℕ → Bool) → Rows → Rows

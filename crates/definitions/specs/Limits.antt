@@ -1,4 +1,4 @@
--- Document 01's limits and sizes, each named once.
+-- The limits and sizes of document 01, each named once; the words of a book and the longest stream are document 02's (W-205).
 use Prim.Native.Nat.{ℕ, _*_}
 
 -- how many machines, nodes and commands there are: each is a number under its limit
@@ -21,7 +21,7 @@ levels = 8
 
 -- the words of a book and of a sheet
 abbrev pub bookLength : ℕ
-bookLength = 4737
+bookLength = 4993
 
 abbrev pub sheetLength : ℕ
 sheetLength = 2880
@@ -47,7 +47,7 @@ largestPlanCost = 255 * largestCost
 
 -- the longest stream that Write gives
 abbrev pub longestStream : ℕ
-longestStream = 33918
+longestStream = 34812
 
 -- how many commands of a lent list Choose looks at, and how many bytes of its input the session reads
 abbrev pub longestList : ℕ

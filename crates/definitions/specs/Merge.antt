@@ -6,7 +6,7 @@ use mathlib.Core.List.{List, [], _∷_}
 use Prim.Native.Nat.{ℕ, zero, suc, _+_, _≤_}
 use lib.Dec.{eqb, ltb}
 use lib.ListN.{length}
-use Rattle.definitions.specs.Basics.{_>>=_, orElse, countBelow}
+use Rattle.definitions.specs.Basics.{_>>=_, option, orElse, countBelow}
 use Rattle.definitions.specs.Limits.{machines, nodes, bookLength}
 use Rattle.definitions.specs.Tree.{Tree, Transition, withNodes, withMachines, usedMachine, usedNode, UsedMachine, isState}
 use Rattle.definitions.specs.Costs.{LeastCost}
@@ -67,7 +67,7 @@ nodeMoves t u = rising nodes (usedNode u) (unusedNode t)
 abbrev pub movedTransition : (ℕ → Option ℕ) → Transition → Option Transition
 movedTransition to a = to (a .target) >>= λ v. some (record { target = v; cost = a .cost })
 
--- the tree at other numbers, its root at number r
+-- the tree at other numbers, its root at number r; a hold goes with its node (document 02, W-205)
 unfoldable pub renumbered : Renumbering → Renumbering → ℕ → Tree → Tree
 renumbered ms ns r t =
     record {
@@ -77,14 +77,16 @@ renumbered ms ns r t =
       start = λ m. ms .from m >>= t .start >>= ns .to;
       holder = λ m. ms .from m >>= t .holder >>= ns .to;
       transition = λ n x. ns .from n >>= λ k. t .transition k x >>= movedTransition (ns .to);
+      hold = λ n. option 0 (t .hold) (ns .from n);
     }
 
--- the tree, and in each field where it has nothing what another tree has there; its own root stays (the two use no number in common)
+-- the tree, and in each field where it has nothing what another tree has there; its own root stays. Holds are added: the two use no number
+-- in common, so one of the two is 0 (document 02, W-205: a merge carries holds along)
 unfoldable pub beside : Tree → Tree → Tree
 beside t u =
     withMachines
     (withNodes t (λ n. orElse (t .owner n) (u .owner n)) (λ n. orElse (t .below n) (u .below n))
-    (λ n x. orElse (t .transition n x) (u .transition n x)))
+    (λ n x. orElse (t .transition n x) (u .transition n x)) (λ n. t .hold n + u .hold n))
     (λ m. orElse (t .start m) (u .start m)) (λ m. orElse (t .holder m) (u .holder m))
 
 -- the first tree below node a of the new root r, a its start, and the second, whose root moved to s, below r's other node b

@@ -1,4 +1,5 @@
--- Document 01, "Opening": the trees of Open fresh and Open ladder, the tree that a table of rows says, and the sheet of an opening.
+-- Document 01, "Opening": the trees of Open fresh and Open ladder, the tree that a table of rows says, and the sheet of an opening. No node is
+-- held (document 02, W-205).
 use mathlib.Core.Bool.{Bool, not, cond, _&&_}
 use mathlib.Core.Option.{Option, none, some}
 use mathlib.Core.List.{List}
@@ -56,6 +57,7 @@ ladderTree =
       start = λ m. given (ltb m ladderMachines) (3 * m + 1);
       holder = λ m. ladderHolder m;
       transition = λ n x. ladderTransition n x;
+      hold = λ n. 0;
     }
 
 -- ---- The tree of a table of rows, as the ladder's is one (document 02, W-208: holders follow from the rows, the machine that no row holds
@@ -114,6 +116,7 @@ grown rows k r =
       start = λ m. under machines m (lastUnder k (λ n. rowStart rows n && isAt (rowOwner rows n) m));
       holder = λ m. under machines m (lastUnder k (λ n. isAt (rowBelow rows n) m));
       transition = λ n x. linked rows k n x;
+      hold = λ n. 0;
     }
 
 -- whether a machine in use is held by no node

@@ -1,5 +1,6 @@
 -- Document 01, "The tree and its step": entering a node, the step and its cost, and what a list of commands does.
--- (Definition 3 of sources 000 and 001, as document 01 fixes it.) Also the node that acts (document 02, W-202).
+-- (Definition 3 of sources 000 and 001, as document 01 fixes it.) Also the node that acts (document 02, W-202), and all of it past the
+-- transitions that a hold shuts (W-205).
 use mathlib.Core.Path.{_≡_}
 use mathlib.Core.Bool.{cond}
 use mathlib.Core.Option.{Option, none, some}
@@ -7,7 +8,7 @@ use mathlib.Core.List.{List, [], _∷_, _++_}
 use Prim.Native.Nat.{ℕ, zero, suc, _+_}
 use Rattle.definitions.specs.Basics.{_>>=_, option, isAt, All}
 use Rattle.definitions.specs.Limits.{levels}
-use Rattle.definitions.specs.Tree.{Tree, Transition, path}
+use Rattle.definitions.specs.Tree.{Tree, Transition, onHold, path, unlessInto}
 
 -- to enter a node: a plain node is the state; else on to the start node of the machine below it
 unfoldable pub enterF : ℕ → Tree → ℕ → Option ℕ
@@ -21,9 +22,10 @@ enter t n = enterF levels t n
 unfoldable pub startState : Tree → ℕ → Option ℕ
 startState t m = t .start m >>= λ s. enter t s
 
--- the transition of a node that counts for a command
+-- The transition of a node that counts for a command (document 01, "The tree and its step"): one into a held node is shut, and counts as
+-- absent (document 02, W-205). A node's own hold shuts none of its transitions, so a station inside may leave.
 unfoldable pub counting : Tree → ℕ → ℕ → Option Transition
-counting t n x = t .transition n x
+counting t n x = unlessInto (onHold t) (t .transition n x)
 
 -- what leaving a machine costs (document 01: Leaving a machine costs nothing)
 unfoldable pub leaving : Tree → ℕ → ℕ
@@ -49,13 +51,13 @@ abbrev pub firstOf : ℕ → Option Transition → Climb → Climb
 firstOf n none up = up
 firstOf n (some a) up = found n (a .target) (a .cost)
 
--- the first node of a path that has a transition for x, looking no further than the nodes of machine top
+-- the first node of a path that has a transition for x which counts, looking no further than the nodes of machine top
 unfoldable pub look : Tree → ℕ → ℕ → List ℕ → Climb
 look t top x [] = passed 0
 look t top x (n ∷ up) =
     firstOf n (counting t n x) (cond (isAt (t .owner n) top) (passed 0) (past (leavingOf t n) (look t top x up)))
 
--- the lowest node, n itself first and then the nodes that hold it, up to those of machine top, that has a transition for x
+-- the lowest node, n itself first and then the nodes that hold it, up to those of machine top, that has a transition for x which counts
 unfoldable pub climb : Tree → ℕ → ℕ → ℕ → Climb
 climb t top n x = look t top x (path t n)
 

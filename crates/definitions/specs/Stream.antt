@@ -1,4 +1,4 @@
--- Document 01, "Loading a stream": opcodes, operands, and the reading of a stream's next command.
+-- Document 01, "Loading a stream": opcodes, operands, and the reading of a stream's next command. Opcode 0x1A is document 02's (W-205).
 use mathlib.Core.Bool.{cond}
 use mathlib.Core.Option.{Option, none, some}
 use mathlib.Core.List.{List, [], _∷_}
@@ -17,8 +17,9 @@ pub data Edit : Type 0 where
   clear : (node command : ℕ) → Edit
   start : (node : ℕ) → Edit
   crown : (machine node : ℕ) → Edit
+  hold : (node byte : ℕ) → Edit
 
--- the nine commands of a stream
+-- the ten commands of a stream
 pub data Command : Type 0 where
   edit : Edit → Command
   refresh : Command
@@ -34,7 +35,8 @@ operandLength op =
     (cond (eqb op 0x15) (some 3)
     (cond (eqb op 0x16) (some 2)
     (cond (eqb op 0x17) (some 3)
-    (cond (eqb op 0x18) (some 0) none))))))))
+    (cond (eqb op 0x18) (some 0)
+    (cond (eqb op 0x1A) (some 3) none)))))))))
 
 -- the byte at a place, and the two bytes from a place, high byte first
 abbrev pub byteAt : List ℕ → ℕ → ℕ
@@ -43,7 +45,7 @@ byteAt bytes i = getD bytes i 0
 abbrev pub pairAt : List ℕ → ℕ → ℕ
 pairAt bytes i = byteAt bytes i * 256 + byteAt bytes (suc i)
 
--- the command of an opcode and the bytes after it: nodes and costs take two bytes, machines and commands one; none for an unknown opcode
+-- the command of an opcode and the bytes after it: nodes and costs take two bytes, machines, commands and holds one; none for an unknown opcode
 unfoldable pub decode : ℕ → List ℕ → Option Command
 decode op bytes =
     cond (eqb op 0x10) (some (edit (begin (byteAt bytes 0) (pairAt bytes 1))))
@@ -54,7 +56,8 @@ decode op bytes =
     (cond (eqb op 0x15) (some (edit (clear (pairAt bytes 0) (byteAt bytes 2))))
     (cond (eqb op 0x16) (some (edit (start (pairAt bytes 0))))
     (cond (eqb op 0x17) (some (edit (crown (byteAt bytes 0) (pairAt bytes 1))))
-    (cond (eqb op 0x18) (some refresh) none))))))))
+    (cond (eqb op 0x18) (some refresh)
+    (cond (eqb op 0x1A) (some (edit (hold (pairAt bytes 0) (byteAt bytes 2)))) none)))))))))
 
 -- what stands next in a stream: nothing, a command and how many bytes it takes, or a refusal
 pub data Next : Type 0 where

@@ -1,4 +1,5 @@
--- Document 01, "The tree and its step": the tree of machines, and when it is one. No word of memory stands here.
+-- Document 01, "The tree and its step", with document 02's holds (W-205): the tree of machines, and when it is one. No word of memory stands
+-- here.
 use mathlib.Core.Path.{_≡_}
 use mathlib.Core.Bool.{Bool, not, _&&_}
 use mathlib.Core.Option.{Option, none, some}
@@ -6,7 +7,7 @@ use mathlib.Core.List.{List, [], _∷_}
 use Prim.Native.Nat.{ℕ, zero, suc, _<_}
 use lib.Dec.{eqb}
 use lib.ListN.{length}
-use Rattle.definitions.specs.Basics.{_>>=_, option, isSome, isAt, put, iterate, countBelow, anyOf}
+use Rattle.definitions.specs.Basics.{_>>=_, option, unless, isSome, isAt, put, iterate, countBelow, anyOf}
 use Rattle.definitions.specs.Limits.{machines, nodes, commands, costs, levels}
 
 -- one transition of a node (document 01: an arrow and its charge)
@@ -28,6 +29,8 @@ pub record Tree : Type 0 where
   pub holder : ℕ → Option ℕ
   -- the transition of a node for a command
   pub transition : ℕ → ℕ → Option Transition
+  -- 1 for a node that is held, 0 for every other (document 02, W-205: a hold)
+  pub hold : ℕ → ℕ
 
 -- the tree with m as its root
 abbrev pub withRoot : Tree → ℕ → Tree
@@ -39,11 +42,12 @@ withRoot t m =
       start = t .start;
       holder = t .holder;
       transition = t .transition;
+      hold = t .hold;
     }
 
 -- the tree with other fields of its nodes
-abbrev pub withNodes : Tree → (owner below : ℕ → Option ℕ) → (transition : ℕ → ℕ → Option Transition) → Tree
-withNodes t owner below transition =
+abbrev pub withNodes : Tree → (owner below : ℕ → Option ℕ) → (transition : ℕ → ℕ → Option Transition) → (hold : ℕ → ℕ) → Tree
+withNodes t owner below transition hold =
     record {
       root = t .root;
       owner = owner;
@@ -51,6 +55,7 @@ withNodes t owner below transition =
       start = t .start;
       holder = t .holder;
       transition = transition;
+      hold = hold;
     }
 
 -- the tree with other fields of its machines
@@ -63,19 +68,24 @@ withMachines t start holder =
       start = start;
       holder = holder;
       transition = t .transition;
+      hold = t .hold;
     }
 
 -- the tree with o as the owner of node n
 abbrev pub withOwner : Tree → ℕ → Option ℕ → Tree
-withOwner t n o = withNodes t (put (t .owner) n o) (t .below) (t .transition)
+withOwner t n o = withNodes t (put (t .owner) n o) (t .below) (t .transition) (t .hold)
 
 -- the tree with o as the machine below node n
 abbrev pub withBelow : Tree → ℕ → Option ℕ → Tree
-withBelow t n o = withNodes t (t .owner) (put (t .below) n o) (t .transition)
+withBelow t n o = withNodes t (t .owner) (put (t .below) n o) (t .transition) (t .hold)
 
 -- the tree with other transitions
 abbrev pub withTransitions : Tree → (ℕ → ℕ → Option Transition) → Tree
-withTransitions t transition = withNodes t (t .owner) (t .below) transition
+withTransitions t transition = withNodes t (t .owner) (t .below) transition (t .hold)
+
+-- the tree with b as the hold of node n (document 02, W-205)
+abbrev pub withNodeHold : Tree → ℕ → ℕ → Tree
+withNodeHold t n b = withNodes t (t .owner) (t .below) (t .transition) (put (t .hold) n b)
 
 -- the tree with o as the start node of machine m
 abbrev pub withStartOf : Tree → ℕ → Option ℕ → Tree
@@ -92,7 +102,11 @@ usedMachine t m = isSome (t .start m)
 abbrev pub usedNode : Tree → ℕ → Bool
 usedNode t n = isSome (t .owner n)
 
--- the same as statements
+-- whether a node is held (document 02, W-205)
+abbrev pub onHold : Tree → ℕ → Bool
+onHold t n = eqb (t .hold n) 1
+
+-- in use, as statements
 abbrev pub UsedMachine : Tree → ℕ → Type 0
 UsedMachine t m = (s : ℕ) × (t .start m ≡ some s)
 
@@ -135,7 +149,11 @@ within t n d = anyOf (eqb n) (path t d)
 unfoldable pub over : Tree → ℕ → ℕ → Bool
 over t p n = anyOf (λ d. isAt (t .owner d) p) (path t n)
 
--- document 01's conditions on a tree: numbers in range, unused records empty, and "well formed"
+-- a transition, but none where its target passes the test
+abbrev pub unlessInto : (ℕ → Bool) → Option Transition → Option Transition
+unlessInto p o = o >>= λ a. unless (p (a .target)) (some a)
+
+-- document 01's conditions on a tree: numbers in range, unused records empty, and "well formed"; document 02's of holds (W-205)
 pub record Sound (t : Tree) : Type 0 where
   -- the root is in use and no node holds it
   pub root-used : UsedMachine t (t .root)
@@ -155,5 +173,9 @@ pub record Sound (t : Tree) : Type 0 where
   pub transition-range : (n x : ℕ) (a : Transition) → t .transition n x ≡ some a → (x < commands) × (a .cost < costs)
   pub transition-owned : (n x : ℕ) (a : Transition) → t .transition n x ≡ some a
       → (m : ℕ) × (t .owner n ≡ some m) × (t .owner (a .target) ≡ some m)
+  -- a hold is 0 or 1, and 0 at an unused node and at a start node
+  pub hold-range : (n : ℕ) → t .hold n < 2
+  pub hold-used : (n : ℕ) → t .hold n ≡ 1 → UsedNode t n
+  pub hold-start : (m s : ℕ) → t .start m ≡ some s → t .hold s ≡ 0
   -- every machine in use climbs to the root in at most 7 steps
   pub climbs : (m s : ℕ) → t .start m ≡ some s → (k : ℕ) × (k < levels) × (iterate (parent t) k m ≡ some (t .root))

@@ -1,4 +1,5 @@
--- Document 01, "Book and sheet in memory": when a sheet is true.
+-- Document 01, "Book and sheet in memory": when a sheet is true. Transitions are those that count: document 02, W-205, has no shut one in a
+-- sheet.
 use mathlib.Core.Path.{_≡_}
 use mathlib.Core.Logic.{_⊎_}
 use mathlib.Core.Bool.{true, false}
@@ -18,7 +19,7 @@ use Rattle.definitions.specs.Sheet.{Rows, machineRowWord, rowsOf}
 unfoldable pub nodeExit : Tree → Rows → ℕ → ℕ → Option ℕ
 nodeExit t r n x = option (some 0) (λ m. r .exit m x >>= λ e. some (e + leaving t m)) (t .below n)
 
--- a move inside a machine by the transition of node n for x: the exit cost of the node left plus the transition's
+-- a move inside a machine by the transition of node n for x, where it counts: the exit cost of the node left plus the transition's
 unfoldable pub move : Tree → Rows → ℕ → ℕ → Option Arrival
 move t r n x = counting t n x >>= λ a. nodeExit t r n x >>= λ e. some (record { node = a .target; cost = e + a .cost })
 
@@ -54,7 +55,7 @@ pub record Named (t : Tree) (r : Rows) (m n c : ℕ) : Type 0 where
   pub moves : move t r node command ≡ some (record { node = n; cost = step-cost })
   pub exact : c ≡ node-cost + step-cost
 
--- exit cost c of machine m for x has a last node: one of m with no transition for x, whose cost plus own exit cost is c
+-- exit cost c of machine m for x has a last node: one of m with no transition for x that counts, whose cost plus own exit cost is c
 pub record Ended (t : Tree) (r : Rows) (m x c : ℕ) : Type 0 where
   pub node : ℕ
   pub node-cost : ℕ

@@ -1,4 +1,4 @@
--- Document 01, "Writing, choosing, the session": the one stream that Write gives for a tree.
+-- Document 01, "Writing, choosing, the session", with document 02's holds (W-205): the one stream that Write gives for a tree.
 use mathlib.Core.Path.{_≡_}
 use mathlib.Core.Bool.{cond, not, _&&_}
 use mathlib.Core.List.{List, [], _∷_, _++_}
@@ -7,7 +7,7 @@ use lib.Dec.{eqb}
 use lib.ListN.{length, drop}
 use Rattle.definitions.specs.Basics.{option, joined}
 use Rattle.definitions.specs.Limits.{nodes, commands, levels}
-use Rattle.definitions.specs.Tree.{Tree, level}
+use Rattle.definitions.specs.Tree.{Tree, onHold, level}
 use Rattle.definitions.specs.Edit.{isStart}
 use Rattle.definitions.specs.Book.{treeOf}
 use Rattle.definitions.specs.Answer.{Answer, gives, refuses, asksRoom, InOrder}
@@ -39,12 +39,18 @@ arrowBytes n x v c = 0x14 ∷ (pair n ++ x ∷ (pair v ++ pair c))
 unfoldable pub writtenArrow : Tree → ℕ → ℕ → List ℕ
 writtenArrow t n x = option [] (λ a. arrowBytes n x (a .target) (a .cost)) (t .transition n x)
 
--- the whole stream: begin; for each level first add, then refine, both by rising node; last all arrows by node, then command
+-- hold, for node n where it is held
+unfoldable pub writtenHold : Tree → ℕ → List ℕ
+writtenHold t n = cond (onHold t n) (0x1A ∷ (pair n ++ 1 ∷ [])) []
+
+-- the whole stream: begin; for each level first add, then refine, both by rising node; then all arrows by node, then command; last the holds
+-- of 1, by node (document 02, W-205)
 unfoldable pub written : Tree → List ℕ
 written t =
     writtenBegin t
     ++ (joined levels (λ l. joined nodes (writtenAdd t (suc l)) ++ joined nodes (writtenRefine t (suc l)))
-    ++ joined nodes (λ n. joined commands (writtenArrow t n)))
+    ++ (joined nodes (λ n. joined commands (writtenArrow t n))
+    ++ joined nodes (writtenHold t)))
 
 -- bytes are given: their length, and the bytes at the front of the output, the rest untouched; 15 where the output is shorter, writing nothing
 abbrev pub GivesBytes : List ℕ → List ℕ → Answer → List ℕ → Type 0

@@ -7,14 +7,14 @@ use Prim.Native.Nat.{ℕ, _+_, _*_, _<_}
 use native.Mathlib.Omega.{arith}
 use borrow.Author.Tests.{ne-eqb}
 use Rattle.definitions.specs.Limits.{machines, nodes, costs, absent, blank}
-use Rattle.definitions.specs.Tree.{Tree, Transition, withRoot, withOwner, withBelow, withStartOf, withHolder, UsedNode}
+use Rattle.definitions.specs.Tree.{Tree, Transition, withRoot, withOwner, withBelow, withNodeHold, withStartOf, withHolder, UsedNode}
 use Rattle.definitions.specs.Book.{word, transitionWord, number, transitionOf, treeOf}
 use Rattle.definitions.specs.Sheet.{rowsOf}
 use Rattle.definitions.specs.Stream.{Edit}
 use Rattle.definitions.specs.Edit.{edited, withTransition, withStart}
 use Rattle.definitions.proofs.Words.{transition-word}
-use Rattle.definitions.proofs.Commands.{TakenAdd, TakenRefine, TakenArrow, TakenClear, TakenStart, TakenCrown}
-use Rattle.definitions.proofs.Commands.{taken-add, taken-refine, taken-arrow, taken-clear, taken-start, taken-crown}
+use Rattle.definitions.proofs.Commands.{TakenAdd, TakenRefine, TakenArrow, TakenClear, TakenStart, TakenCrown, TakenHold}
+use Rattle.definitions.proofs.Commands.{taken-add, taken-refine, taken-arrow, taken-clear, taken-start, taken-crown, taken-hold}
 use Rattle.book.specs.Fields.{Holds}
 use Rattle.book.proofs.Stores.{holds-then}
 use Rattle.sheet.specs.Fields.{Leaves, withMark}
@@ -24,7 +24,7 @@ use Rattle.marking.specs.Stale.{LeavesStaleOver}
 use Rattle.sheet.proofs.Stores.{leaves-same}
 use Rattle.editing.specs.Edited.{Ready, Edited}
 use Rattle.editing.proofs.Left.{holds-same, left-edited}
-use Rattle.editing.proofs.Rows.{add-rows, refine-rows, arrow-rows, clear-rows, start-rows, crown-rows}
+use Rattle.editing.proofs.Rows.{add-rows, refine-rows, arrow-rows, clear-rows, hold-rows, start-rows, crown-rows}
 
 -- the word of a machine or a node says its number
 number-of : (k : ℕ) → k < nodes → number k ≡ some k
@@ -128,6 +128,18 @@ module _ {b s : List ℕ} {n x : ℕ} (ready : Ready b s (Edit.clear n x)) where
   unfolding edited transitionOf
   clear-done left held =
       left-edited ready held (leaves-same left (clear-rows (treeOf b) n x (rowsOf s)))
+
+-- ---- hold
+
+module _ {b s : List ℕ} {n h : ℕ} (ready : Ready b s (Edit.hold n h)) where
+  -- what it is done on: a node in use
+  pub hold-taken : TakenHold (treeOf b) n h
+  hold-taken = taken-hold (treeOf b) n h (ready .taken)
+
+  -- what the marks and the store leave is what the edit leaves
+  pub hold-done : {b′ s′ : List ℕ} → LeavesStaleOver (treeOf b) n s s′ → Holds b′ (withNodeHold (treeOf b) n h) → Edited b s (Edit.hold n h) b′ s′
+  unfolding edited
+  hold-done left held = left-edited ready held (leaves-same left (hold-rows (treeOf b) n h (rowsOf s)))
 
 -- ---- start
 

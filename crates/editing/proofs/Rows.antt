@@ -82,7 +82,7 @@ unfolding edited editedRows touches
 refine-rows {t} sound n m f taken r =
     new-stale t (edited t (Edit.refine n m f)) sound (λ p. over t p n) r (taken .machine-new) (taken .first-new) (λ p. refl) (λ k. refl)
 
--- arrow and clear: machines and nodes stay
+-- arrow, clear and hold: machines and nodes stay
 pub arrow-rows : (t : Tree) (n x v c : ℕ) (r : Rows) → withStale t (λ p. over t p n) r ≡ editedRows t (Edit.arrow n x v c) r
 unfolding edited editedRows touches withStale withTransition
 arrow-rows t n x v c r = refl
@@ -90,6 +90,10 @@ arrow-rows t n x v c r = refl
 pub clear-rows : (t : Tree) (n x : ℕ) (r : Rows) → withStale t (λ p. over t p n) r ≡ editedRows t (Edit.clear n x) r
 unfolding edited editedRows touches withStale withTransition
 clear-rows t n x r = refl
+
+pub hold-rows : (t : Tree) (n b : ℕ) (r : Rows) → withStale t (λ p. over t p n) r ≡ editedRows t (Edit.hold n b) r
+unfolding edited editedRows touches withStale
+hold-rows t n b r = refl
 
 -- start: the same machines are in use
 pub start-rows : {t : Tree} → Sound t → (n m : ℕ) → t .owner n ≡ some m → (r : Rows)

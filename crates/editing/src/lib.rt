@@ -15,8 +15,8 @@ pub fn do_add(book: &mut [u32], sheet: &mut [u32], m: u32, n: u32)
     book::set_owner(book, n, m);
 }
 
-// Refine: puts the new machine m, with only its new start node s, below node n, which keeps its transitions. It marks m, the machine of n
-// and all above it; all else stays.
+// Refine: puts the new machine m, with only its new start node s, below node n, which keeps its transitions and its hold. It marks m, the
+// machine of n and all above it; all else stays.
 pub fn do_refine(book: &mut [u32], sheet: &mut [u32], n: u32, m: u32, s: u32)
     requires { ⌜ Ready (now book) (now sheet) (Edit.refine n m s) ⌝ }
     ensures { λ r. ⌜ Edited (now (book .entry)) (now (sheet .entry)) (Edit.refine n m s) (now (book .exit)) (now (sheet .exit)) ⌝ }
@@ -45,6 +45,15 @@ pub fn do_clear(book: &mut [u32], sheet: &mut [u32], n: u32, x: u32)
 {
     marking::touch(book, sheet, n);
     book::set_transition(book, n, x, book::BLANK);
+}
+
+// Hold: makes b the hold of node n, 1 or 0 (document 02, W-205). It marks the machine of n and all above it; all else stays.
+pub fn do_hold(book: &mut [u32], sheet: &mut [u32], n: u32, b: u32)
+    requires { ⌜ Ready (now book) (now sheet) (Edit.hold n b) ⌝ }
+    ensures { λ r. ⌜ Edited (now (book .entry)) (now (sheet .entry)) (Edit.hold n b) (now (book .exit)) (now (sheet .exit)) ⌝ }
+{
+    marking::touch(book, sheet, n);
+    book::set_hold(book, n, b);
 }
 
 // Start: makes node n the start node of its machine, which it marks with all above it; all else stays.

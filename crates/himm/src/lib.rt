@@ -44,7 +44,7 @@ pub extern "C" fn himm_merge(
     merging::merge(first, second, book, sheet)
 }
 
-// Load: does the commands of a stream up to its end or the first that is refused. Refuses 1, 2, 3, then at a command 4 to 12.
+// Load: does the commands of a stream up to its end or the first that is refused. Refuses 1, 2, 3, then at a command 4 to 12 or 21.
 #[no_mangle]
 pub extern "C" fn himm_load(
     book: &mut [u32],

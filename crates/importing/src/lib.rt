@@ -10,8 +10,7 @@ ghost use Rattle.book.specs.Decides.{Decides};
 ghost use Rattle.storing.specs.Stored.{Stored};
 ghost use Rattle.importing.specs.Meaning.{readingOf, answerOf, firstFailing};
 use storing::put_arrow;
-use storing::put_byte;
-use storing::put_pair;
+use storing::put_node_byte;
 
 // What a probe logged: seconds taken, or seconds waited without an end.
 pub enum Reading {
@@ -112,9 +111,7 @@ fn put_clear(out: &mut [u8], n: u32, x: u32) -> usize
     requires { ⌜ (n < nodes) × (x < commands) ⌝ }
     ensures { λ r. ⌜ Stored (now (out .entry)) 0 (settingBytes n x none) r (now (out .exit)) ⌝ }
 {
-    let node = put_byte(out, 0, 0x15);
-    let command = put_pair(out, node, n);
-    put_byte(out, command, x)
+    put_node_byte(out, 0, 0x15, n, x)
 }
 
 // The import: arrow with the cost of seconds taken, or clear for a wait without an end, at the front of out, the rest of out untouched, and

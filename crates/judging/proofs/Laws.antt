@@ -12,7 +12,7 @@ use Rattle.definitions.specs.Limits.{machines, nodes, commands, levels, absent}
 use Rattle.definitions.specs.Basics.{option, isSome}
 use Rattle.definitions.specs.Tree.{Tree, UsedNode, Sound, usedMachine, usedNode, level}
 use Rattle.definitions.specs.Book.{word, treeOf, WellFormed}
-use Rattle.definitions.specs.Edit.{Test, _when_, firstHolding, badMachine, badNode, badCommand, isStart, apart, lowest, anyLowest}
+use Rattle.definitions.specs.Edit.{Test, _when_, firstHolding, badMachine, badNode, badCommand, badHold, isStart, apart, lowest, anyLowest}
 use Rattle.definitions.proofs.Options.{decided, true-false, isSome-true}
 use Rattle.definitions.proofs.Path.{same-level}
 use Rattle.definitions.proofs.Words.{present-word, owner-range, start-range, below-range, no-start}
@@ -52,9 +52,12 @@ node-range n e fails = in-range (sym e ∙ fails)
 pub place-range : (m n : ℕ) {r : Bool} → r ≡ (badMachine m || badNode n) → r ≡ false → (m < machines) × (n < nodes)
 place-range m n e fails = let (a, b) = neither (sym e ∙ fails) in (in-range a, in-range b)
 
--- those of clear, of refine and of arrow
+-- those of clear, of hold, of refine and of arrow
 pub clear-range : (n x : ℕ) {r : Bool} → r ≡ (badNode n || badCommand x) → r ≡ false → (n < nodes) × (x < commands)
 clear-range n x e fails = let (a, b) = neither (sym e ∙ fails) in (in-range a, in-range b)
+
+pub hold-range : (n b : ℕ) {r : Bool} → r ≡ (badNode n || badHold b) → r ≡ false → n < nodes
+hold-range n b e fails = in-range (neither (sym e ∙ fails) .0)
 
 pub refine-range : (n m s : ℕ) {r : Bool} → r ≡ (badNode n || badMachine m || badNode s) → r ≡ false
     → (n < nodes) × (m < machines) × (s < nodes)

@@ -1,14 +1,15 @@
-// The refusals 6 to 12 of a command on a well-formed book, in document 01's order ("Loading a stream"). Each test of a refusal is a
-// function of its own, and a command goes through its tests in turn.
+// The refusals 6 to 12 and 21 of a command on a well-formed book, in the documents' order (document 01, "Loading a stream"; document 02, W-205).
+// Each test of a refusal is a function of its own, and a command goes through its tests in turn.
 ghost use mathlib.Core.Path.{_≡_};
-ghost use mathlib.Core.Bool.{false, not, _||_};
+ghost use mathlib.Core.Bool.{false, not, _&&_, _||_};
 ghost use Prim.Native.Nat.{ℕ, _<_};
+ghost use lib.Dec.{eqb};
 ghost use Rattle.definitions.specs.Limits.{machines, nodes};
 ghost use Rattle.definitions.specs.Basics.{isSome, option};
-ghost use Rattle.definitions.specs.Tree.{Tree, UsedNode, usedMachine, usedNode};
+ghost use Rattle.definitions.specs.Tree.{Tree, UsedNode, usedMachine, usedNode, onHold};
 ghost use Rattle.definitions.specs.Book.{treeOf, WellFormed};
-ghost use Rattle.definitions.specs.Stream.{edit, begin, add, refine, remove, arrow, clear, start, crown};
-ghost use Rattle.definitions.specs.Edit.{badMachine, badNode, badCommand, isStart, apart, lowest, anyLowest, refusal};
+ghost use Rattle.definitions.specs.Stream.{edit, begin, add, refine, remove, arrow, clear, start, crown, hold};
+ghost use Rattle.definitions.specs.Edit.{badMachine, badNode, badCommand, badHold, isStart, apart, lowest, anyLowest, refusal};
 ghost use Rattle.reading.specs.Meaning.{commandOf};
 use reading::Command;
 
@@ -45,6 +46,13 @@ fn clear_out_of_range(n: u32, x: u32) -> bool
     ensures { λ r. ⌜ r ≡ (badNode n || badCommand x) ⌝ }
 {
     bad_node(n) || bad_command(x)
+}
+
+// The same for hold, whose byte is 1 or 0.
+fn hold_out_of_range(n: u32, b: u32) -> bool
+    ensures { λ r. ⌜ r ≡ (badNode n || badHold b) ⌝ }
+{
+    bad_node(n) || !(b < 2)
 }
 
 // The same for refine.
@@ -109,6 +117,22 @@ fn is_start(book: &[u32], n: u32) -> bool
     book::start(book, book::owner(book, n)) == n
 }
 
+// Whether node n is held.
+fn on_hold(book: &[u32], n: u32) -> bool
+    requires { ⌜ WellFormed (now book) × (n < nodes) ⌝ }
+    ensures { λ r. ⌜ r ≡ onHold (treeOf (now (book .entry))) n ⌝ }
+{
+    book::hold(book, n) == 1
+}
+
+// Whether b is a hold of 1 and node n the start node of its machine.
+fn holds_start(book: &[u32], n: u32, b: u32) -> bool
+    requires { ⌜ WellFormed (now book) × UsedNode (treeOf (now book)) n ⌝ }
+    ensures { λ r. ⌜ r ≡ (eqb b 1 && isStart (treeOf (now (book .entry))) n) ⌝ }
+{
+    b == 1 && is_start(book, n)
+}
+
 // Whether two nodes belong to different machines.
 fn apart(book: &[u32], n: u32, v: u32) -> bool
     requires { ⌜ WellFormed (now book) × UsedNode (treeOf (now book)) n × UsedNode (treeOf (now book)) v ⌝ }
@@ -153,7 +177,7 @@ pub fn any_lowest(book: &[u32]) -> bool
 }
 
 // The refusal of begin, 0 where it is taken. Of this and the commands below: 6 (number out of range), 7 (machine or node not in use),
-// 8 (new number in use), 9 (already refined), 10 (a start node), 11 (target in another machine), 12 (over 8 levels).
+// 8 (new number in use), 9 (already refined), 10 (a start node), 11 (target in another machine), 12 (over 8 levels), 21 (a held start node).
 fn judge_begin(m: u32, n: u32) -> u32
     ensures { λ r. ⌜ ((t : Tree) → r ≡ refusal t (edit (begin m n))) ⌝ }
 {
@@ -262,6 +286,26 @@ fn judge_start(book: &[u32], n: u32) -> u32
     if !used_node(book, n) {
         return 7;
     }
+    if on_hold(book, n) {
+        return 21;
+    }
+    0
+}
+
+// The refusal of hold.
+fn judge_hold(book: &[u32], n: u32, b: u32) -> u32
+    requires { ⌜ WellFormed (now book) ⌝ }
+    ensures { λ r. ⌜ r ≡ refusal (treeOf (now (book .entry))) (edit (hold n b)) ⌝ }
+{
+    if hold_out_of_range(n, b) {
+        return 6;
+    }
+    if !used_node(book, n) {
+        return 7;
+    }
+    if holds_start(book, n, b) {
+        return 21;
+    }
     0
 }
 
@@ -306,5 +350,6 @@ pub fn refusal(book: &[u32], command: Command) -> u32
         Command::Start { node } => judge_start(book, node),
         Command::Crown { machine, node } => judge_crown(book, machine, node),
         Command::Refresh => 0,
+        Command::Hold { node, hold } => judge_hold(book, node, hold),
     }
 }

@@ -1,5 +1,5 @@
-// Streams loaded, run: the mast book is loaded and refreshed, its exit costs are read, each refusal of a command is provoked, and sheets with one
-// false word are refused.
+// Streams loaded, run: the mast book is loaded and refreshed, its exit costs are read, also with holds (document 02, W-205), each refusal of a
+// command is provoked, and sheets with one false word are refused.
 use exiting::ExitAnswer;
 use libc::STDOUT_FILENO;
 
@@ -118,7 +118,7 @@ fn mast_book(book: &mut Book, sheet: &mut Sheet) {
     show_exit(b"exit of 0 by 2:", book, sheet, 0, 2);
 }
 
-// Each refusal of a command, 4 to 11.
+// Each refusal of a command, 4 to 11, but for holds.
 fn refusals(book: &mut Book, sheet: &mut Sheet) {
     show_load(b"unknown opcode:", book, sheet, b"\x19\x00\x00\x00\x02");
     show_load(b"cut short:", book, sheet, b"\x14\x00\x00\x00");
@@ -154,6 +154,90 @@ fn false_words(book: &mut Book, sheet: &mut Sheet) {
     falsify(b"name at a start node:", book, sheet, 2113, 1);
 }
 
+// Holds of node 11 in machine 1 and of node 2 in the root: which rows are marked, the exit costs past transitions that are shut, and the release.
+fn holds(book: &mut Book, sheet: &mut Sheet) {
+    show_load(b"hold of node 11:", book, sheet, b"\x1A\x00\x0B\x01");
+    show_exit(b"its machine is marked:", book, sheet, 1, 2);
+    show_exit(b"and the one above:", book, sheet, 0, 2);
+    show_load(b"refresh:", book, sheet, b"\x18");
+    show_exit(b"exit of 1 by 1:", book, sheet, 1, 1);
+    show_exit(b"exit of 1 by 2:", book, sheet, 1, 2);
+    show_exit(b"exit of 0 by 2:", book, sheet, 0, 2);
+    show_load(b"hold of node 2:", book, sheet, b"\x1A\x00\x02\x01");
+    show_exit(b"the machine below is not marked:", book, sheet, 1, 2);
+    show_exit(b"its own is:", book, sheet, 0, 2);
+    show_load(
+        b"both released:",
+        book,
+        sheet,
+        b"\x1A\x00\x02\x00\x1A\x00\x0B\x00\x18",
+    );
+    show_exit(b"exit of 1 by 2:", book, sheet, 1, 2);
+    show_exit(b"exit of 0 by 2:", book, sheet, 0, 2);
+}
+
+// Each refusal of a hold, and holds that are taken without a change.
+fn hold_refusals(book: &mut Book, sheet: &mut Sheet) {
+    show_load(b"hold cut short:", book, sheet, b"\x1A\x00\x02");
+    show_load(b"hold of node 256:", book, sheet, b"\x1A\x01\x00\x01");
+    show_load(b"hold of two:", book, sheet, b"\x1A\x00\x02\x02");
+    show_load(
+        b"hold of two, node not in use:",
+        book,
+        sheet,
+        b"\x1A\x00\x05\x02",
+    );
+    show_load(b"node not in use:", book, sheet, b"\x1A\x00\x05\x00");
+    show_load(b"hold of a start node:", book, sheet, b"\x1A\x00\x0A\x01");
+    show_load(b"its release:", book, sheet, b"\x1A\x00\x0A\x00");
+    show_load(
+        b"held twice, released twice:",
+        book,
+        sheet,
+        b"\x1A\x00\x02\x01\x1A\x00\x02\x01\x1A\x00\x02\x00\x1A\x00\x02\x00\x18",
+    );
+    show_load(
+        b"held node made a start:",
+        book,
+        sheet,
+        b"\x1A\x00\x02\x01\x16\x00\x02",
+    );
+    show_load(
+        b"start not in use:",
+        book,
+        sheet,
+        b"\x1A\x00\x02\x00\x16\x00\x05",
+    );
+}
+
+// A hold goes with its node and with all at a begin, and stays when its node is refined: whether 0x16 is taken then tells.
+fn holds_gone(book: &mut Book, sheet: &mut Sheet) {
+    show_load(
+        b"held node removed and added again:",
+        book,
+        sheet,
+        b"\x10\x00\x00\x00\x11\x00\x00\x02\x1A\x00\x02\x01\x13\x00\x02\x11\x00\x00\x02\x16\x00\x02",
+    );
+    show_load(
+        b"held node below a removed one:",
+        book,
+        sheet,
+        b"\x10\x00\x00\x00\x11\x00\x00\x01\x12\x00\x01\x01\x00\x0A\x11\x01\x00\x0B\x1A\x00\x0B\x01\x13\x00\x01\x11\x00\x00\x0B\x16\x00\x0B",
+    );
+    show_load(
+        b"held node before a begin:",
+        book,
+        sheet,
+        b"\x10\x00\x00\x00\x11\x00\x00\x02\x1A\x00\x02\x01\x10\x00\x00\x00\x11\x00\x00\x02\x16\x00\x02",
+    );
+    show_load(
+        b"held node refined:",
+        book,
+        sheet,
+        b"\x10\x00\x00\x00\x11\x00\x00\x02\x1A\x00\x02\x01\x12\x00\x02\x01\x00\x0A\x16\x00\x02",
+    );
+}
+
 // A stream that is refused on its way: what stands before the refused command is done.
 fn stopped(book: &mut Book, sheet: &mut Sheet) {
     show_load(
@@ -175,7 +259,10 @@ fn main() {
     mast_book(&mut book, &mut sheet);
     refusals(&mut book, &mut sheet);
     false_words(&mut book, &mut sheet);
+    holds(&mut book, &mut sheet);
+    hold_refusals(&mut book, &mut sheet);
     stopped(&mut book, &mut sheet);
     false_names(&mut book, &mut sheet);
     nine_levels(&mut book, &mut sheet);
+    holds_gone(&mut book, &mut sheet);
 }

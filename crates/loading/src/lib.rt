@@ -50,6 +50,7 @@ fn do_command(book: &mut [u32], sheet: &mut [u32], command: Command)
         Command::Start { node } => editing::do_start(book, sheet, node),
         Command::Crown { machine, node } => editing::do_crown(book, sheet, machine, node),
         Command::Refresh => refreshing::refresh(book, sheet),
+        Command::Hold { node, hold } => editing::do_hold(book, sheet, node, hold),
     }
 }
 
@@ -110,7 +111,7 @@ fn refused(number: u32) -> Loaded
 
 // Load: does the commands of a stream on a book and its sheet, up to the stream's end or the first command that is refused, and answers how
 // many bytes and commands were taken, and 0 or the refusal. It refuses 1 (a wrong length), 2 (book not well formed) and 3 (sheet not true)
-// with nothing done; then at a command 4 to 12, with the commands before it done and nothing of it.
+// with nothing done; then at a command 4 to 12 or 21, with the commands before it done and nothing of it.
 pub fn load(book: &mut [u32], sheet: &mut [u32], stream: &[u8]) -> Loaded
     ensures { λ r. ⌜ LoadSays (now (book .entry)) (now (sheet .entry)) (now (stream .entry)) (answerOf r) (now (book .exit)) (now (sheet .exit)) ⌝ }
 {

@@ -1,5 +1,5 @@
-// Merges, run (document 02, W-201): the mast book with itself, with the numbers that its machines and nodes get and plans on both halves; books full
-// to the last number; each refusal, with the words lent for the third book and sheet untouched.
+// Merges, run (document 02, W-201): the mast book with itself, with the numbers that its machines and nodes get and plans on both halves; the same
+// with holds (W-205); books full to the last number; each refusal, with the words lent for the third book and sheet untouched.
 use libc::STDOUT_FILENO;
 use planning::PlanAnswer;
 
@@ -7,6 +7,9 @@ use planning::PlanAnswer;
 type Book = [u32; book::BOOK];
 
 type Sheet = [u32; sheet::SHEET];
+
+// A list with a word more than a book has.
+type Longer = [u32; book::BOOK + 1];
 
 // How many words are lent for the two books, and for the third book and its sheet.
 struct Words {
@@ -122,8 +125,8 @@ fn merge_fronts(
 
 // The same with lists that hold 7 everywhere.
 fn show_refused(text: &[u8], first: &[u32], second: &[u32], words: Words) {
-    let mut book = [7u32; 4738];
-    let mut sheet = [7u32; 2881];
+    let mut book = [7u32; book::BOOK + 1];
+    let mut sheet = [7u32; sheet::SHEET + 1];
     merge_fronts(text, first, second, &mut book, &mut sheet, words);
 }
 
@@ -143,22 +146,24 @@ fn show_whole(text: &[u8], first: &Book, second: &Book) {
 }
 
 // Each list a word too short and a word too long; the two books are lent with a word more than they have.
-fn show_lengths(first: &[u32; 4738], second: &[u32; 4738]) {
-    show_length(b"first short:", first, second, 4736, 4737, 4737, 2880);
-    show_length(b"first long:", first, second, 4738, 4737, 4737, 2880);
-    show_length(b"second short:", first, second, 4737, 4736, 4737, 2880);
-    show_length(b"second long:", first, second, 4737, 4738, 4737, 2880);
-    show_length(b"book short:", first, second, 4737, 4737, 4736, 2880);
-    show_length(b"book long:", first, second, 4737, 4737, 4738, 2880);
-    show_length(b"sheet short:", first, second, 4737, 4737, 4737, 2879);
-    show_length(b"sheet long:", first, second, 4737, 4737, 4737, 2881);
+fn show_lengths(first: &Longer, second: &Longer) {
+    let n = book::BOOK;
+    let rows = sheet::SHEET;
+    show_length(b"first short:", first, second, n - 1, n, n, rows);
+    show_length(b"first long:", first, second, n + 1, n, n, rows);
+    show_length(b"second short:", first, second, n, n - 1, n, rows);
+    show_length(b"second long:", first, second, n, n + 1, n, rows);
+    show_length(b"book short:", first, second, n, n, n - 1, rows);
+    show_length(b"book long:", first, second, n, n, n + 1, rows);
+    show_length(b"sheet short:", first, second, n, n, n, rows - 1);
+    show_length(b"sheet long:", first, second, n, n, n, rows + 1);
 }
 
 // The same with so many words of each.
 fn show_length(
     text: &[u8],
-    first: &[u32; 4738],
-    second: &[u32; 4738],
+    first: &Longer,
+    second: &Longer,
     one: usize,
     two: usize,
     three: usize,
@@ -195,6 +200,23 @@ fn merge_mast(mast: &Book, other: &Book) {
     show_plan(b"11 to 10:", &book, &sheet, 11, 10);
     show_plan(b"7 to 6:", &book, &sheet, 7, 6);
     show_plan(b"0 to 5:", &book, &sheet, 0, 5);
+}
+
+// The mast book with node 2 held, merged with one where nodes 1 and 11 are: their holds are at nodes 2, 4 and 7.
+fn merge_holds(mast: &Book) {
+    let mut first = *mast;
+    let mut second = *mast;
+    let mut book = [7u32; book::BOOK];
+    let mut sheet = [7u32; sheet::SHEET];
+    first[4739] = 1;
+    second[4738] = 1;
+    second[4748] = 1;
+    show_merge(b"both with holds:", &first, &second, &mut book, &mut sheet);
+    show_words(b"holds:", &book, 4737, 4749);
+    show_load(b"refresh:", &mut book, &mut sheet, b"\x18");
+    show_plan(b"0 to 2:", &book, &sheet, 0, 2);
+    show_plan(b"3 to 5:", &book, &sheet, 3, 5);
+    show_plan(b"7 to 5:", &book, &sheet, 7, 5);
 }
 
 // Torn books, eight levels, and eight levels with too few numbers.
@@ -281,7 +303,7 @@ fn open_ladder(book: &mut Book, sheet: &mut Sheet) {
 
 // Lends lists that are a word too short or too long.
 fn lengths(mast: &Book) {
-    let mut long = [65535u32; 4738];
+    let mut long = [65535u32; book::BOOK + 1];
     let mut i = 0usize;
     while i < book::BOOK {
         long[i] = mast[i];
@@ -311,6 +333,7 @@ fn main() {
     );
     let other = mast;
     merge_mast(&mast, &other);
+    merge_holds(&mast);
     lengths(&mast);
     refusals(&mast, &deep, &ladder);
     last_machine(&fresh);

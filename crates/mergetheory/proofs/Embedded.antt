@@ -17,7 +17,7 @@ use Rattle.definitions.proofs.Simple.{state-test, state-root, step-inside, run-
 use Rattle.definitions.proofs.Tests.{state-parts}
 
 -- tree t stands in tree u: node n of t at number f n, machine m of t at number g m. All of t's fields go along; t's root is held by a node of
--- u's root that has no transition
+-- u's root that has no transition that counts
 pub record Embeds (t u : Tree) (f g : ℕ → ℕ) : Type 0 where
   pub owner : (n m : ℕ) → t .owner n ≡ some m → u .owner (f n) ≡ some (g m)
   pub plain : (n m : ℕ) → t .owner n ≡ some m → t .below n ≡ none → u .below (f n) ≡ none

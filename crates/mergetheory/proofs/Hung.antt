@@ -4,15 +4,16 @@ use mathlib.Core.Path.{_≡_, refl, sym, _∙_, ap}
 use mathlib.Core.Logic.{_⊎_, inl, inr, ⊎-elim}
 use mathlib.Core.Option.{Option, none, some}
 use Prim.Native.Nat.{ℕ, _+_, _<_}
+use native.Mathlib.Omega.{arith}
 use Rattle.definitions.specs.Basics.{orElse}
 use Rattle.definitions.specs.Limits.{levels}
 use Rattle.definitions.specs.Tree.{Tree, Transition, Sound}
 use Rattle.definitions.specs.Edit.{withHeld}
 use Rattle.definitions.specs.Merge.{beside}
-use Rattle.definitions.proofs.Options.{none-some, put-same, put-other}
+use Rattle.definitions.proofs.Options.{present, none-some, put-same, put-other}
 use Rattle.definitions.proofs.Lists.{no-value}
 use Rattle.definitions.proofs.Path.{Deep, at-root, under, root-holder}
-use Rattle.definitions.proofs.Words.{unused-below, unused-holder, unused-transition}
+use Rattle.definitions.proofs.Words.{unused-below, unused-hold, unused-holder, unused-transition}
 use Rattle.definitions.proofs.Kept.{put-some, Stays, climbs-onto, climbs-kept}
 
 -- ---- a value, or another
@@ -64,6 +65,10 @@ module _ {t u : Tree} {b : ℕ} (h : Hangs t u b) where
     unfolding beside
     first-transition x = or-first (t .transition n x) (unused-transition u (h .second-sound) n x unowned)
 
+    pub first-hold : hung t u b .hold n ≡ t .hold n
+    unfolding beside
+    first-hold = omega (arith, unused-hold u (h .second-sound) n unowned)
+
   -- and of a machine of t
   module _ {m f : ℕ} (used : t .start m ≡ some f) where
     unstarted : u .start m ≡ none
@@ -97,6 +102,10 @@ module _ {t u : Tree} {b : ℕ} (h : Hangs t u b) where
     pub second-transition : (x : ℕ) → hung t u b .transition n x ≡ u .transition n x
     unfolding beside
     second-transition x = or-second (u .transition n x) (unused-transition t (h .first-sound) n x new-node)
+
+    pub second-hold : hung t u b .hold n ≡ u .hold n
+    unfolding beside
+    second-hold = omega (arith, unused-hold t (h .first-sound) n new-node)
 
   -- and of a machine of u, but for what holds its root
   module _ {m f : ℕ} (used : u .start m ≡ some f) where
@@ -174,6 +183,12 @@ module _ {t u : Tree} {b : ℕ} (h : Hangs t u b) where
   unfolding beside
   transition-cases n x a e = or-some (t .transition n x) (u .transition n x) e
 
+  -- a hold is one tree's or the other's
+  hold-cases : (n : ℕ) → (((m : ℕ) × (t .owner n ≡ some m)) × (hung t u b .hold n ≡ t .hold n)) ⊎ (hung t u b .hold n ≡ u .hold n)
+  unfolding beside
+  hold-cases n =
+      ⊎-elim (λ new. inr (omega (arith, unused-hold t (h .first-sound) n new))) (λ own. inl (own, first-hold (own .1))) (present (t .owner n))
+
   -- the whole is sound, if no machine of u comes too deep
   pub hung-sound : ((m f k : ℕ) → u .start m ≡ some f → Deep u m k → k + 1 < levels) → Sound (hung t u b)
   unfolding beside
@@ -216,6 +231,14 @@ module _ {t u : Tree} {b : ℕ} (h : Hangs t u b) where
             (λ old. let (p, here, there) = st .transition-owned n x a old in (p, first-owners n p here, first-owners (a .target) p there))
             (λ new. let (p, here, there) = su .transition-owned n x a new in (p, second-owners n p here, second-owners (a .target) p there))
             (transition-cases n x a e);
+        hold-range = λ n.
+            ⊎-elim (λ old. omega (arith, old .1, st .hold-range n)) (λ new. omega (arith, new, su .hold-range n)) (hold-cases n);
+        hold-used = λ n e.
+            ⊎-elim (λ old. let (m, own) = old .0 in (m, first-owners n m own))
+            (λ new. let (m, own) = su .hold-used n (sym new ∙ e) in (m, second-owners n m own)) (hold-cases n);
+        hold-start = λ m i e.
+            ⊎-elim (λ old. first-hold (st .start-owned m i old) ∙ st .hold-start m i old)
+            (λ new. second-hold (su .start-owned m i new) ∙ su .hold-start m i new) (start-cases m i e);
         climbs = λ m i e.
             ⊎-elim (climbs-kept st (hung t u b) refl first-holders first-owners m i)
             (climbs-onto su (under {h = b} hung-holder (first-owners b (t .root) (h .node)) (at-root refl)) second-holders second-owners room m i)

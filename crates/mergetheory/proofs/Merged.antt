@@ -20,10 +20,10 @@ use Rattle.definitions.proofs.Words.{unused-below, unused-transition}
 use Rattle.definitions.proofs.Commands.{TakenAdd, TakenCrown, neither, none-below}
 use Rattle.definitions.proofs.Kept.{put-some, add-sound, crown-sound}
 use Rattle.mergetheory.proofs.Ranks.{Renumbers, rising-renumbers, HasRank, ranked-some, beyond, rank-under}
-use Rattle.mergetheory.proofs.Renumbered.{carried, owner-at, below-at, transition-at, start-at, holder-at, deep-moved, renumbered-sound}
+use Rattle.mergetheory.proofs.Renumbered.{carried, owner-at, below-at, transition-at, hold-at, start-at, holder-at, deep-moved, renumbered-sound}
 use Rattle.mergetheory.proofs.Hung.{hung, Hangs, hung-sound, hung-holder}
-use Rattle.mergetheory.proofs.Hung.{first-owner, first-below, first-transition, first-start, first-holder}
-use Rattle.mergetheory.proofs.Hung.{second-owner, second-below, second-transition, second-start, second-holder}
+use Rattle.mergetheory.proofs.Hung.{first-owner, first-below, first-transition, first-hold, first-start, first-holder}
+use Rattle.mergetheory.proofs.Hung.{second-owner, second-below, second-transition, second-hold, second-start, second-holder}
 use Rattle.mergetheory.proofs.Stands.{goesTo, goes-there, Stands, stands-same}
 
 -- ---- the parts of a merge
@@ -283,6 +283,10 @@ module _ {t u : Tree} (st : Sound t) (su : Sound u) (high : anyLowest t ≡ fals
     unfolding edited
     whole-transition x = first-transition hangs (roof-owner own ∙ own) x
 
+    whole-hold : whole p .hold n ≡ t .hold n
+    unfolding edited
+    whole-hold = first-hold hangs (roof-owner own ∙ own)
+
   module _ {m f : ℕ} (used : t .start m ≡ some f) where
     whole-start : whole p .start m ≡ t .start m
     whole-start = first-start hangs (roof-start used ∙ used) ∙ roof-start used
@@ -301,6 +305,7 @@ module _ {t u : Tree} (st : Sound t) (su : Sound u) (high : anyLowest t ≡ fals
         owner = λ {n} own. whole-owner own ∙ sym (bind-same (t .owner n));
         below = λ {n} own. whole-below own ∙ sym (bind-same (t .below n));
         transition = λ {n} own x. whole-transition own x ∙ sym (unmoved (t .transition n x));
+        hold = λ {n} own. whole-hold own;
         start = λ {m} used. whole-start used ∙ sym (bind-same (t .start m));
         holder = λ {m} used other.
             whole-holder used ∙ put-other (t .holder) (t .root) (some (p .first)) m other ∙ sym (bind-same (t .holder m));
@@ -350,6 +355,7 @@ module _ {t u : Tree} (st : Sound t) (su : Sound u) (high : anyLowest t ≡ fals
         below = λ {n} own. second-below hangs (shift-owned own) ∙ below-at nodes-moved (machineMoves t u) (p .top) u (node-to own);
         transition = λ {n} own x.
             second-transition hangs (shift-owned own) x ∙ transition-at nodes-moved (machineMoves t u) (p .top) u (node-to own) x;
+        hold = λ {n} own. second-hold hangs (shift-owned own) ∙ hold-at nodes-moved (machineMoves t u) (p .top) u (node-to own);
         start = λ {m} used. second-start hangs (shift-used used) ∙ shift-start used;
         holder = λ {m} used other.
             second-holder hangs (shift-used used) (λ same. other (shift-root used same))

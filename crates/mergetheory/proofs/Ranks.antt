@@ -13,18 +13,9 @@ use Rattle.definitions.specs.Basics.{countBelow}
 use Rattle.definitions.specs.Merge.{ranked, moved, Renumbering, rising}
 use Rattle.definitions.proofs.Options.{none-some, some-same, true-false, decided, equal-or-not, less-or-not}
 use Rattle.definitions.proofs.Lists.{no-value}
-use Rattle.definitions.proofs.Simple.{count-same}
+use Rattle.definitions.proofs.Simple.{count-pass, count-skip, count-same}
 
 -- ---- how many numbers pass
-
--- one more, where the number passes; as many, where it does not
-pub count-pass : (p : ℕ → Bool) (k : ℕ) → p k ≡ true → countBelow (suc k) p ≡ suc (countBelow k p)
-unfolding countBelow
-count-pass p k e = rw e (omega arith)
-
-pub count-skip : (p : ℕ → Bool) (k : ℕ) → p k ≡ false → countBelow (suc k) p ≡ countBelow k p
-unfolding countBelow
-count-skip p k e = rw e (omega arith)
 
 -- a number that passes is counted below every higher one
 pub count-under : (p : ℕ → Bool) (limit d : ℕ) → d < limit → p d ≡ true → countBelow d p < countBelow limit p

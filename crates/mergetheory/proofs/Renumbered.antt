@@ -2,9 +2,10 @@
 -- Assumes nothing.
 use mathlib.Core.Path.{_≡_, refl, sym, _∙_, ap}
 use mathlib.Core.Bool.{Bool, true}
-use mathlib.Core.Option.{Option, some}
+use mathlib.Core.Option.{Option, none, some}
 use Prim.Native.Nat.{ℕ, _<_}
-use Rattle.definitions.specs.Basics.{_>>=_}
+use native.Mathlib.Omega.{arith}
+use Rattle.definitions.specs.Basics.{_>>=_, option}
 use Rattle.definitions.specs.Limits.{machines, nodes}
 use Rattle.definitions.specs.Tree.{Tree, Transition, Sound, usedMachine, usedNode}
 use Rattle.definitions.specs.Merge.{Renumbering, renumbered, movedTransition}
@@ -56,6 +57,11 @@ module _ {ns : Renumbering} {pn qn : ℕ → Bool} (rn : Renumbers ns pn qn) (ms
   pub transition-at : (x : ℕ) → renumbered ms ns r t .transition k x ≡ (t .transition n x >>= movedTransition (ns .to))
   unfolding renumbered
   transition-at x = rw (rn .back to)
+
+  -- and its hold
+  pub hold-at : renumbered ms ns r t .hold k ≡ t .hold n
+  unfolding renumbered
+  hold-at = rw (rn .back to)
 
 module _ {ms : Renumbering} {pm qm : ℕ → Bool} (rm : Renumbers ms pm qm) (ns : Renumbering) (r : ℕ) (t : Tree) {m k : ℕ}
     (to : ms .to m ≡ some k) where
@@ -116,6 +122,15 @@ module _ {t : Tree} (s : Sound t) {ms ns : Renumbering} {qm qn : ℕ → Bool} (
         let same : record { target = v; cost = b .cost } ≡ a = some-same refl made in
         (k, b, came, has, to ∙ ap (λ (c : Transition). some (c .target)) same, ap (λ (c : Transition). c .cost) same)
 
+    -- a hold is one that came along
+    hold-small : (o : Option ℕ) → option 0 (t .hold) o < 2
+    hold-small none = omega arith
+    hold-small (some n) = s .hold-range n
+
+    hold-came : (o : Option ℕ) → option 0 (t .hold) o ≡ 1 → (k : ℕ) × (o ≡ some k) × (t .hold k ≡ 1)
+    hold-came none e = absurd (omega arith)
+    hold-came (some k) e = (k, refl, e)
+
     -- the tree at other numbers is sound
     pub renumbered-sound : ((m : ℕ) → qm m ≡ true → m < machines) → ((n : ℕ) → qn n ≡ true → n < nodes) → Sound (renumbered ms ns r t)
     unfolding renumbered
@@ -148,6 +163,13 @@ module _ {t : Tree} (s : Sound t) {ms ns : Renumbering} {qm qn : ℕ → Bool} (
                 carry (ns .from) (t .owner) (ms .to) n came here goes,
                 carry (ns .from) (t .owner) (ms .to) (a .target) (rn .back to) there goes,
               );
+          hold-range = λ n. hold-small (ns .from n);
+          hold-used = λ n e.
+              let (k, came, one) = hold-came (ns .from n) e in
+              owner-there n came (s .hold-used k one .1);
+          hold-start = λ m f e.
+              let c = carried (ms .from) (t .start) (ns .to) m e in
+              rw (rn .back (c .goes)) (s .hold-start (c .number) (c .value) (c .had));
           climbs = λ m f e.
               let c = carried (ms .from) (t .start) (ns .to) m e in
               let (j, small, way) = deep s (c .had) in

@@ -1,18 +1,19 @@
 -- A tree that stands in another at the numbers to which its machines and nodes move: from what the fields are there, least costs are the same.
 -- Assumes nothing.
 use mathlib.Core.Path.{_≡_, sym, _∙_, ap, subst₂}
+use mathlib.Core.Logic.{⊎-elim}
 use mathlib.Core.Bool.{true}
 use mathlib.Core.Option.{Option, none, some}
 use Prim.Native.Nat.{ℕ}
+use lib.Dec.{eqb}
 use Rattle.definitions.specs.Basics.{_>>=_, option}
-use Rattle.definitions.specs.Tree.{Tree, Sound, isState}
+use Rattle.definitions.specs.Tree.{Tree, Transition, Sound, isState, onHold}
 use Rattle.definitions.specs.Step.{counting, leaving}
 use Rattle.definitions.specs.Costs.{LeastCost}
 use Rattle.definitions.specs.Merge.{movedTransition, SameCosts}
-use Rattle.definitions.proofs.Options.{none-some, some-same}
-use Rattle.definitions.proofs.Path.{leaving-free, counting-is, root-holder}
+use Rattle.definitions.proofs.Options.{present, some-same, decided}
+use Rattle.definitions.proofs.Path.{leaving-free, counting-is, counting-some, counting-shut, counting-none, root-holder}
 use Rattle.definitions.proofs.Tests.{state-parts}
-use Rattle.definitions.proofs.Lists.{no-value}
 use Rattle.mergetheory.proofs.Embedded.{Embeds, embedded-state, embedded-cost, unembedded-cost}
 
 -- the number to which a number moves
@@ -32,6 +33,7 @@ pub record Stands (t w : Tree) (node machine : ℕ → Option ℕ) : Type 0 wher
   pub owner : {n m : ℕ} → t .owner n ≡ some m → w .owner (goesTo node n) ≡ (t .owner n >>= machine)
   pub below : {n m : ℕ} → t .owner n ≡ some m → w .below (goesTo node n) ≡ (t .below n >>= machine)
   pub transition : {n m : ℕ} → t .owner n ≡ some m → (x : ℕ) → w .transition (goesTo node n) x ≡ (t .transition n x >>= movedTransition node)
+  pub hold : {n m : ℕ} → t .owner n ≡ some m → w .hold (goesTo node n) ≡ t .hold n
   pub start : {m f : ℕ} → t .start m ≡ some f → w .start (goesTo machine m) ≡ (t .start m >>= node)
   pub holder : {m f : ℕ} → t .start m ≡ some f → (m ≡ t .root → ⊥) → w .holder (goesTo machine m) ≡ (t .holder m >>= node)
   pub apart : {m f : ℕ} → t .start m ≡ some f → goesTo machine m ≡ w .root → ⊥
@@ -42,16 +44,6 @@ pub record Stands (t w : Tree) (node machine : ℕ → Option ℕ) : Type 0 wher
 
 -- ---- the two definitions that a step goes by
 
--- the transition that counts moves where the transition does
-counting-moves : (t w : Tree) (to : ℕ → Option ℕ) (n k x : ℕ) → w .transition k x ≡ (t .transition n x >>= movedTransition to)
-    → counting w k x ≡ (counting t n x >>= movedTransition to)
-unfolding counting
-counting-moves t w to n k x e = e
-
--- none counts where there is none
-counting-none : (t : Tree) (n x : ℕ) → t .transition n x ≡ none → counting t n x ≡ none
-counting-none t n x e = no-value (counting t n x) (λ a has. none-some e (counting-is t n x a has))
-
 -- leaving a machine costs the same in both
 leaving-same : (t w : Tree) (m k : ℕ) → leaving w k ≡ leaving t m
 leaving-same t w m k = leaving-free w k ∙ sym (leaving-free t m)
@@ -59,9 +51,23 @@ leaving-same t w m k = leaving-free w k ∙ sym (leaving-free t m)
 -- ---- what follows
 
 module _ {t w : Tree} (st : Sound t) {node machine : ℕ → Option ℕ} (s : Stands t w node machine) where
-  -- the transition that counts for a command at a node's number
+  -- the transition that counts for a command at a node's number: a target is held in both or in neither
   counts-there : {n m : ℕ} → t .owner n ≡ some m → (x : ℕ) → counting w (goesTo node n) x ≡ (counting t n x >>= movedTransition node)
-  counts-there {n} own x = counting-moves t w node n (goesTo node n) x (s .transition own x)
+  counts-there {n} own x = ⊎-elim absent there (present (t .transition n x))
+    where
+      absent : t .transition n x ≡ none → counting w (goesTo node n) x ≡ (counting t n x >>= movedTransition node)
+      absent e = counting-none w (goesTo node n) x (s .transition own x ∙ rw e) ∙ rw (counting-none t n x e)
+
+      there : (a : Transition) × (t .transition n x ≡ some a) → counting w (goesTo node n) x ≡ (counting t n x >>= movedTransition node)
+      there (a, e) =
+          let (m, here, target) = st .transition-owned n x a e in
+          let b : Transition = record { target = goesTo node (a .target); cost = a .cost } in
+          let has : w .transition (goesTo node n) x ≡ some b = s .transition own x ∙ rw (e, s .node-to target) in
+          let held : onHold w (b .target) ≡ onHold t (a .target) = ap (λ (h : ℕ). eqb h 1) (s .hold target) in
+          ⊎-elim
+          (λ shut. counting-shut w (goesTo node n) x b has (held ∙ shut) ∙ rw (counting-shut t n x a e shut))
+          (λ free. counting-some w (goesTo node n) x b has (held ∙ free) ∙ rw (counting-some t n x a e free, s .node-to target))
+          (decided (onHold t (a .target)))
 
   -- the tree is embedded
   stands-embeds : Embeds t w (goesTo node) (goesTo machine)

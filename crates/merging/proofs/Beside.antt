@@ -4,7 +4,7 @@ use mathlib.Core.Logic.{_⊎_, inl, inr}
 use mathlib.Core.Bool.{Bool, cond}
 use mathlib.Core.Option.{Option, none, some}
 use mathlib.Core.List.{List}
-use Prim.Native.Nat.{ℕ, zero, suc, _<_}
+use Prim.Native.Nat.{ℕ, zero, suc, _+_, _<_}
 use native.Mathlib.Omega.{arith}
 use lib.Dec.{eqb}
 use lib.ListN.{getD}
@@ -158,3 +158,28 @@ node-joins {first} {second} wf ws s k h =
     go zero n h = refl
     go (suc zero) n h = refl
     go (suc (suc k)) n h = absurd (omega arith)
+
+-- ---- holds
+
+module _ {first second : List ℕ} (wf : WellFormed first) (ws : WellFormed second) (n : ℕ) {own d : ℕ} (said : own ≡ treeOf first .hold n)
+    (came : d ≡ word (nodeMoves (treeOf first) (treeOf second) .from n)) where
+  -- no node moved there: the first's own
+  pub hold-own : d ≡ absent → (s : ℕ) → own ≡ besideTree first second s .hold n
+  unfolding beside renumbered
+  hold-own at s =
+      let gone = absent-none (nodeMoves (treeOf first) (treeOf second) .from n) (omega arith) (from-small nodes _ _ n) came at in
+      rw gone (omega (arith, said))
+
+  module _ (present : d ≡ absent → ⊥) where
+    -- the node that did is one
+    pub hold-from : d < nodes
+    hold-from = present-small nodes (nodeMoves (treeOf first) (treeOf second) .from n) (from-small nodes _ _ n) came present
+
+    -- its hold beside the first's, a small number
+    pub hold-fits : {h : ℕ} → h ≡ treeOf second .hold d → own + h < 4
+    hold-fits told = omega (arith, said, told, wf .sound .hold-range n, ws .sound .hold-range d)
+
+    pub hold-moved : {h : ℕ} → h ≡ treeOf second .hold d → (s : ℕ) → own + h ≡ besideTree first second s .hold n
+    unfolding beside renumbered
+    hold-moved told s =
+        rw (present-word (nodeMoves (treeOf first) (treeOf second) .from n) came present) (omega (arith, said, told))

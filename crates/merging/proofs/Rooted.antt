@@ -73,6 +73,11 @@ module _ (first second : List ℕ) (r a b s : ℕ) where
   unfolding underNewRoot edited beside
   transition-else n x = refl
 
+  -- and so are holds
+  pub hold-else : (n : ℕ) → besideTree first second s .hold n ≡ rootedTree first second r a b s .hold n
+  unfolding underNewRoot edited beside
+  hold-else n = refl
+
   -- a transition more of node n
   pub recorded-transition : (n x w : ℕ) {ws after : List ℕ} → Recorded ws (rootedTree first second r a b s) machines n (x + 2)
       → Holds after (withTransition (treeOf ws) n x (transitionOf w)) → w ≡ transitionWord (besideTree first second s .transition n x)

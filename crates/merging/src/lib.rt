@@ -7,7 +7,7 @@ ghost use lib.Dec.{eqb};
 ghost use lib.ListN.{length, getD};
 ghost use Rattle.definitions.specs.Limits.{machines, nodes, commands, bookLength, absent};
 ghost use Rattle.definitions.specs.Tree.{usedMachine, usedNode};
-ghost use Rattle.definitions.specs.Book.{word, transitionWord, machineFields, machineField, nodeField, encode, treeOf, WellFormed};
+ghost use Rattle.definitions.specs.Book.{word, transitionWord, machineFields, nodeFields, machineField, nodeField, encode, treeOf, WellFormed};
 ghost use Rattle.definitions.specs.Edit.{anyLowest};
 ghost use Rattle.definitions.specs.Answer.{InOrder};
 ghost use Rattle.definitions.specs.Calls.{RightLengths};
@@ -162,6 +162,19 @@ fn beside_transition(first: &[u32], second: &[u32], from: &[u32], to: &[u32], n:
     to[(w / 65536) as usize] * 65536 + w % 65536
 }
 
+// The hold of node n, with those of the second book's nodes at their new numbers beside the first's.
+fn beside_hold(first: &[u32], second: &[u32], from: &[u32], n: u32) -> u32
+    requires { ⌜ WellFormed (now first) × WellFormed (now second) × NodeFrom (now first) (now second) (now from) × (n < nodes) ⌝ }
+    ensures { λ r. ⌜ ((s : ℕ) → r ≡ besideTree (now (first .entry)) (now (second .entry)) s .hold n) ⌝ }
+{
+    let own = book::hold(first, n);
+    let d = from[n as usize];
+    if d == book::ABSENT {
+        return own;
+    }
+    own + book::hold(second, d)
+}
+
 // The node that holds machine m in the merged book.
 fn merged_holder(first: &[u32], second: &[u32], from: &[u32], to: &[u32], h: NewRoot, m: u32) -> u32
     requires { ⌜ WellFormed (now first) × WellFormed (now second) × MachineFrom (now first) (now second) (now from)
@@ -245,7 +258,7 @@ fn write_machines(
 }
 
 // Writes the transitions of node n. Where its owner and the machine below it are there, its record then is, whichever numbers the new root and its
-// nodes have.
+// nodes have; its hold is not yet.
 fn write_transitions(
     first: &[u32],
     second: &[u32],
@@ -257,7 +270,7 @@ fn write_transitions(
     requires { ⌜ WellFormed (now first) × WellFormed (now second) × NodeFrom (now first) (now second) (now from)
         × NodeTo (now first) (now second) (now to) × NodesMove (now first) (now second) × (n < nodes) × (length (now book) ≡ bookLength) ⌝ }
     ensures { λ _. ⌜ ((r a b s : ℕ) → Recorded (now (book .entry)) (rootedTree (now (first .entry)) (now (second .entry)) r a b s) machines n 2
-        → Recorded (now (book .exit)) (rootedTree (now (first .entry)) (now (second .entry)) r a b s) machines (n + 1) 0) ⌝ }
+        → Recorded (now (book .exit)) (rootedTree (now (first .entry)) (now (second .entry)) r a b s) machines n nodeFields) ⌝ }
 {
     let mut x: u32 = 0;
     while x < book::COMMANDS {
@@ -289,6 +302,8 @@ fn write_node(
     book::set_owner(book, n, owner);
     book::set_below(book, n, below);
     write_transitions(first, second, node_from, node_to, n, book);
+    let hold = beside_hold(first, second, node_from, n);
+    book::set_hold(book, n, hold);
 }
 
 // Writes the merged book.

@@ -15,7 +15,8 @@ use Rattle.definitions.specs.Limits.{absent}
 use Rattle.definitions.specs.Book.{word}
 use Rattle.definitions.specs.Merge.{ranked, moved}
 use Rattle.definitions.proofs.Options.{equal-or-not}
-use Rattle.mergetheory.proofs.Ranks.{count-pass, count-skip, ranked-some, ranked-at, ranked-none, none-on, moved-pass, moved-not}
+use Rattle.definitions.proofs.Simple.{count-pass, count-skip}
+use Rattle.mergetheory.proofs.Ranks.{ranked-some, ranked-at, ranked-none, none-on, moved-pass, moved-not}
 use Rattle.numbering.specs.Tests.{has, FrontWords}
 
 module _ (list : List ℕ) (v : ℕ) where

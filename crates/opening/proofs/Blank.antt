@@ -52,6 +52,7 @@ pub record Cleared (t : Tree) (m n : ℕ) : Type 0 where
   pub owner : Upto n (t .owner) (λ i. none)
   pub below : Upto n (t .below) (λ i. none)
   pub transition : Upto n (t .transition) (λ i x. none)
+  pub hold : Upto n (t .hold) (λ i. 0)
 
 -- at first
 pub cleared-none : (t : Tree) → Cleared (withRoot t absent) 0 0
@@ -63,6 +64,7 @@ cleared-none t =
       owner = λ i h. absurd (omega arith);
       below = λ i h. absurd (omega arith);
       transition = λ i h. absurd (omega arith);
+      hold = λ i h. absurd (omega arith);
     }
 
 -- one machine more
@@ -75,6 +77,7 @@ cleared-machine {t} {m} less =
       owner = less .owner;
       below = less .below;
       transition = less .transition;
+      hold = less .hold;
     }
 
 -- one node more
@@ -87,6 +90,7 @@ cleared-node {t} {m} {n} less =
       owner = upto-more n (t .owner) (λ i. none) (less .owner);
       below = upto-more n (t .below) (λ i. none) (less .below);
       transition = upto-more n (t .transition) (λ i x. none) (less .transition);
+      hold = upto-more n (t .hold) (λ i. 0) (less .hold);
     }
 
 -- a book in which all is cleared has none of a table's rows
@@ -102,6 +106,7 @@ cleared-all ws rows all =
     nothing nodes (λ i. under commands x (transitionOf (nodeWord ws i (2 + x))))
     (λ i h. ap (λ (f : ℕ → Option Transition). f x) (all .transition i h)) n
     ∙ sym (none-linked n x))
+    (whole nodes (treeOf ws .hold) (λ n. 0) (all .hold) (λ n past. rw (le-ltb n nodes past)))
   where
     none-linked : (n x : ℕ) → linked rows 0 n x ≡ none
     none-linked n zero = ap neighbour (under-out 0 n (nextLower rows n) (omega arith))

@@ -50,8 +50,8 @@ part-refined k t r n x e = rw e
 abbrev pub Held : Tree → ℕ → ℕ → Type 0
 Held t m d = (v : ℕ) × (t .owner v ≡ some m) × Under t v d
 
--- From state e the list leads to a state from which x climbs as from a node of machine m that has no transition for x, having left
--- machines at cost `left`; all that costs `cost`. It passes states below nodes of m, none of them twice.
+-- From state e the list leads to a state from which x climbs as from a node of machine m that has no transition that counts for x, having
+-- left machines at cost `left`; all that costs `cost`. It passes states below nodes of m, none of them twice.
 pub record Ending (t : Tree) (top m x e cost : ℕ) (list : List ℕ) : Type 0 where
   pub node : ℕ
   pub owned : t .owner node ≡ some m

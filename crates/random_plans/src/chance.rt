@@ -8,12 +8,14 @@ use crate::station::OWNER;
 use crate::station::START;
 use crate::station::Station;
 use crate::station::get;
+use crate::station::is_held;
+use crate::station::is_start;
 use crate::station::is_state;
 use crate::station::level;
 
 // What is picked: nodes in use and not; in the machine of the node that is given, in another, and that node itself; refined ones; states
-// at the level that is given, and above the lowest that may be; start nodes and others; machines in use and not; and with the last two
-// one in use half of the time, else any number, some out of range.
+// at the level that is given, and above the lowest that may be; start nodes and others; held ones; machines in use and not; and with the
+// last two one in use half of the time, else any number, some out of range.
 pub const USED: u32 = 0;
 
 pub const FREE: u32 = 1;
@@ -34,13 +36,15 @@ pub const STARTING: u32 = 8;
 
 pub const NOT_STARTING: u32 = 9;
 
-pub const USED_MACHINE: u32 = 10;
+pub const HELD: u32 = 10;
 
-pub const FREE_MACHINE: u32 = 11;
+pub const USED_MACHINE: u32 = 11;
 
-pub const ANY: u32 = 12;
+pub const FREE_MACHINE: u32 = 12;
 
-pub const ANY_MACHINE: u32 = 13;
+pub const ANY: u32 = 13;
+
+pub const ANY_MACHINE: u32 = 14;
 
 // A number below n, the next of the generator; 0 where n is 0.
 pub fn draw(seed: &mut u64, n: u32) -> u32
@@ -69,8 +73,9 @@ fn fits_node(s: &Station, kind: u32, arg: u32, n: u32) -> bool {
         REFINED => !is_state(s, n),
         LOWEST => is_state(s, n) && level(s, n) == arg,
         HIGH => is_state(s, n) && level(s, n) < LEVELS,
-        STARTING => get(s, START, owner) == n,
-        NOT_STARTING => get(s, START, owner) != n,
+        STARTING => is_start(s, n),
+        NOT_STARTING => !is_start(s, n),
+        HELD => is_held(s, n),
         _ => true,
     }
 }

@@ -6,6 +6,7 @@ use crate::flat::reached;
 use crate::flat::step;
 use crate::station::BELOW;
 use crate::station::COST;
+use crate::station::HOLD;
 use crate::station::HOLDER;
 use crate::station::MACHINES;
 use crate::station::MARK;
@@ -16,6 +17,7 @@ use crate::station::ROOT;
 use crate::station::START;
 use crate::station::Station;
 use crate::station::TARGET;
+use crate::station::any_held;
 use crate::station::any_marked;
 use crate::station::get;
 use crate::station::is_state;
@@ -23,7 +25,6 @@ use crate::station::states;
 use crate::station::transition;
 use crate::stream;
 use crate::stream::Bytes;
-use crate::stream::Counts;
 use crate::stream::wide;
 use crate::tally;
 use crate::tally::LOAD;
@@ -33,9 +34,12 @@ use crate::tally::STREAMS;
 use crate::tally::Tally;
 use crate::tally::count;
 use crate::tally::differs;
+use loading::Loaded;
 use planning::PlanAnswer;
 
-pub type Book = [u32; 4737];
+pub const WORDS: usize = 4993;
+
+pub type Book = [u32; WORDS];
 
 pub type Sheet = [u32; 2880];
 
@@ -61,7 +65,7 @@ fn transition_word(s: &Station, n: u32, x: u32) -> u32 {
     65536 * v + c
 }
 
-// The word that document 01 has at a place of the own station's book.
+// The word that documents 01 and 02 have at a place of the own station's book.
 fn word(s: &Station, i: u32) -> u32 {
     if i == 0 {
         return get(s, ROOT, 0);
@@ -69,6 +73,9 @@ fn word(s: &Station, i: u32) -> u32 {
     if i < 129 {
         let field = if i % 2 == 1 { HOLDER } else { START };
         return get(s, field, (i - 1) / 2);
+    }
+    if i >= 4737 {
+        return get(s, HOLD, i - 4737);
     }
     let n = (i - 129) / 18;
     let k = (i - 129) % 18;
@@ -81,7 +88,7 @@ fn word(s: &Station, i: u32) -> u32 {
 // Compares every word of the book with the station.
 fn compare_book(book: &Book, s: &Station, tally: &mut Tally) {
     let mut i = 0u32;
-    while i < 4737 {
+    while i < 4993 {
         if book[i as usize] != word(s, i) {
             differs(tally, b"book", i, book[i as usize]);
         }
@@ -108,20 +115,15 @@ pub fn compare_words(book: &Book, sheet: &Sheet, s: &Station, tally: &mut Tally)
 }
 
 // Load on the stream's front.
-fn load_front(book: &mut [u32], sheet: &mut [u32], stream: &[u8], length: usize) -> Counts {
+fn load_front(book: &mut [u32], sheet: &mut [u32], stream: &[u8], length: usize) -> Loaded {
     if stream.len() < length {
-        return Counts {
+        return Loaded {
             bytes: 0,
             commands: 0,
             number: 0,
         };
     }
-    let answer = loading::load(book, sheet, &stream[..length]);
-    Counts {
-        bytes: answer.bytes,
-        commands: answer.commands,
-        number: answer.number,
-    }
+    loading::load(book, sheet, &stream[..length])
 }
 
 // Loads a stream into the book and into the own station, and compares what they answer and what they leave.
@@ -136,6 +138,7 @@ pub fn load_both(
     count(tally, STREAMS, 1);
     let own = stream::run(s, stream, length);
     count(tally, tally::COMMANDS, own.commands);
+    count(tally, tally::HOLDS, own.holds);
     count(tally, LOAD + own.number % 32, 1);
     let got = load_front(book, sheet, stream, length);
     if own.bytes != got.bytes || own.commands != got.commands || own.number != got.number {
@@ -294,6 +297,22 @@ fn compare_way(
         differs(tally, b"way", a, b);
     } else if !untouched(buffer, answer.count) {
         differs(tally, b"buffer after the way", a, b);
+    }
+}
+
+// Counts a plan to b with a node held, and whether its cost is another than with none held.
+pub fn count_holds(
+    s: &Station,
+    costs: &[u32; 256],
+    released: &[u32; 256],
+    b: u32,
+    tally: &mut Tally,
+) {
+    if any_held(s) {
+        count(tally, tally::AMONG_HOLDS, 1);
+    }
+    if reached(costs, b) != reached(released, b) {
+        count(tally, tally::CHANGED, 1);
     }
 }
 

@@ -1,7 +1,8 @@
-// What the commands of a stream do to the test's own station, as document 01 says of the expected station, and which machines they mark.
+// What the commands of a stream do to the test's own station, as documents 01 and 02 say of the expected station, and what they mark.
 use crate::station::BELOW;
 use crate::station::COMMANDS;
 use crate::station::COST;
+use crate::station::HOLD;
 use crate::station::HOLDER;
 use crate::station::LEVELS;
 use crate::station::MACHINES;
@@ -13,18 +14,21 @@ use crate::station::ROOT;
 use crate::station::START;
 use crate::station::Station;
 use crate::station::TARGET;
+use crate::station::WORDS;
 use crate::station::get;
 use crate::station::put;
 use crate::station::transition;
 use crate::station::within;
+use crate::station::zero;
 
 // Clears every mark.
 pub fn unmark(s: &mut Station) {
-    let mut m = 0u32;
-    while m < MACHINES {
-        put(s, MARK, m, 0);
-        m += 1;
-    }
+    zero(s, MARK);
+}
+
+// Releases every node.
+pub fn release(s: &mut Station) {
+    zero(s, HOLD);
 }
 
 // Marks machine m and all above it.
@@ -40,8 +44,9 @@ fn mark_up(s: &mut Station, m: u32) {
 
 // Empties the station, and leaves only machine m, as root, with its start node.
 pub fn begin(s: &mut Station, m: u32, n: u32) {
-    *s = [NONE; 9728];
+    *s = [NONE; WORDS];
     unmark(s);
+    release(s);
     put(s, ROOT, 0, m);
     put(s, START, m, n);
     add(s, m, n);
@@ -72,6 +77,13 @@ fn set_transition(s: &mut Station, n: u32, x: u32, v: u32, c: u32) {
 // Gives node n a transition for x.
 pub fn arrow(s: &mut Station, n: u32, x: u32, v: u32, c: u32) {
     set_transition(s, n, x, v, c);
+    let m = get(s, OWNER, n);
+    mark_up(s, m);
+}
+
+// Makes b the hold of node n.
+pub fn set_hold(s: &mut Station, n: u32, b: u32) {
+    put(s, HOLD, n, b);
     let m = get(s, OWNER, n);
     mark_up(s, m);
 }
@@ -137,6 +149,7 @@ fn drop_nodes(s: &mut Station, n: u32, gone: &[bool; 256]) {
         if is_gone(gone, k) {
             put(s, OWNER, k, NONE);
             put(s, BELOW, k, NONE);
+            put(s, HOLD, k, 0);
             drop_transitions(s, k, NONE);
         } else {
             drop_transitions(s, k, n);

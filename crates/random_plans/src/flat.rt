@@ -11,6 +11,7 @@ use crate::station::Station;
 use crate::station::TARGET;
 use crate::station::above;
 use crate::station::get;
+use crate::station::is_held;
 use crate::station::is_state;
 use crate::station::transition;
 
@@ -41,12 +42,18 @@ fn enter(s: &Station, n: u32) -> u32 {
     at
 }
 
-// The lowest node from a state on up that has a transition for a command.
+// The target of node n's transition for x; "none" where there is none, or where it is shut, as its target is held.
+fn counting(s: &Station, n: u32, x: u32) -> u32 {
+    let v = transition(s, TARGET, n, x);
+    if is_held(s, v) { NONE } else { v }
+}
+
+// The lowest node from a state on up that has a transition for a command which is not shut.
 fn lowest(s: &Station, n: u32, x: u32) -> u32 {
     let mut at = n;
     let mut i = 0u32;
     while i < LEVELS {
-        if transition(s, TARGET, at, x) != NONE {
+        if counting(s, at, x) != NONE {
             return at;
         }
         at = above(s, at);

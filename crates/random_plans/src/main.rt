@@ -1,6 +1,6 @@
-// Random books, edited by random streams and planned for pairs of states; all that Load and Plan answer and leave is compared with a
-// station of the test's own, kept from the streams' bytes alone, and with a flat search on it. Then document 01's examples of plan buffers
-// and numbers of nodes on the mast book, and the dearest plan that there can be.
+// Random books, with nodes held and with none, edited by random streams and planned for pairs of states; all that Load and Plan answer and
+// leave is compared with a station of the test's own, kept from the streams' bytes alone, and with a flat search on it. Then document 01's
+// examples of plan buffers and numbers of nodes on the mast book, and the dearest plan that there can be.
 mod chance;
 mod compare;
 mod edits;
@@ -21,6 +21,7 @@ use compare::ask;
 use compare::compare_no;
 use compare::compare_plan;
 use compare::compare_words;
+use compare::count_holds;
 use compare::load_both;
 use compare::longest;
 use flat::Moves;
@@ -49,26 +50,37 @@ fn open(book: &mut Book, sheet: &mut Sheet, s: &mut Station, ladder: bool, tally
     compare_words(book, sheet, s, tally);
 }
 
-// Plans from a state to all states.
+// Plans from a state to all states. The second moves are those with no node held.
 fn plan_from(
     book: &Book,
     sheet: &Sheet,
     s: &Station,
     moves: &Moves,
+    released: &Moves,
     a: u32,
     room: u32,
     tally: &mut Tally,
 ) {
     let mut costs = [0u32; 256];
     flat::distances(moves, a, &mut costs);
+    let mut others = [0u32; 256];
+    flat::distances(released, a, &mut others);
     let mut b = 0u32;
     while b < NODES {
         if is_state(s, b) {
             let lent = if b % 2 == 0 { 255 } else { room };
+            count_holds(s, &costs, &others, b, tally);
             compare_plan(book, sheet, s, &costs, a, b, lent, tally);
         }
         b += 1;
     }
+}
+
+// The moves with no node held.
+fn released_moves(s: &Station, moves: &mut Moves) {
+    let mut next = *s;
+    edits::release(&mut next);
+    flat::all_moves(&next, moves);
 }
 
 // Plans from all states, or of many states from some, to all states.
@@ -82,13 +94,15 @@ fn plan_all(
 ) {
     let mut moves = [0u32; 8192];
     flat::all_moves(s, &mut moves);
+    let mut released = [0u32; 8192];
+    released_moves(s, &mut released);
     let all = states(s);
     let room = longest(all);
     let mut a = 0u32;
     while a < NODES {
         if is_state(s, a) {
             if draw(seed, all) < sources {
-                plan_from(book, sheet, s, &moves, a, room, tally);
+                plan_from(book, sheet, s, &moves, &released, a, room, tally);
             }
         }
         a += 1;
@@ -146,7 +160,7 @@ fn run_singles(
 ) {
     let mut bytes = [0u8; 8192];
     let mut i = 0u32;
-    while i < 12 {
+    while i < 18 {
         let length = making::single(s, seed, &mut bytes);
         load_both(book, sheet, s, &bytes, length, tally);
         i += 1;
@@ -196,9 +210,9 @@ fn run_book(
 
 // All books of a shape, and its line.
 fn run_shape(name: &[u8], shape: u32) {
-    let mut book = [0u32; 4737];
+    let mut book = [0u32; compare::WORDS];
     let mut sheet = [0u32; 2880];
-    let mut s = [0u32; 9728];
+    let mut s = [0u32; station::WORDS];
     let mut tally = [0u64; 72];
     let mut seed = 20250101 + shape as u64;
     open(&mut book, &mut sheet, &mut s, false, &mut tally);
@@ -247,7 +261,7 @@ fn run_given(
     sheet: &mut Sheet,
     tally: &mut Tally,
 ) {
-    let mut s = [0u32; 9728];
+    let mut s = [0u32; station::WORDS];
     let mut seed = 1u64;
     count(tally, tally::BOOKS, 1);
     open(book, sheet, &mut s, false, tally);
@@ -257,7 +271,7 @@ fn run_given(
 
 // The longest line: the dearest plan that there can be fills the buffer.
 fn line_book() {
-    let mut book = [0u32; 4737];
+    let mut book = [0u32; compare::WORDS];
     let mut sheet = [0u32; 2880];
     let mut tally = [0u64; 72];
     let mut stream = [0u8; 8192];
@@ -270,7 +284,7 @@ fn line_book() {
 
 // Document 01's mast book: every pair of states, the shortest buffer and one that is too short, and nodes in range and out of it.
 fn mast() {
-    let mut book = [0u32; 4737];
+    let mut book = [0u32; compare::WORDS];
     let mut sheet = [0u32; 2880];
     let mut tally = [0u64; 72];
     let mut stream = [0u8; 8192];

@@ -6,6 +6,7 @@ use crate::chance::APART;
 use crate::chance::BESIDE;
 use crate::chance::FREE;
 use crate::chance::FREE_MACHINE;
+use crate::chance::HELD;
 use crate::chance::HIGH;
 use crate::chance::LOWEST;
 use crate::chance::NOT_STARTING;
@@ -52,16 +53,27 @@ const CROWN: Kind = [0x17, FREE_MACHINE, FREE, USED];
 
 const REFRESH: Kind = [0x18, USED_MACHINE, USED, USED];
 
-// Kinds that are refused: a node refined again, a start node removed, a transition into another machine, unknown opcodes.
+const HOLD: Kind = [0x1A, USED_MACHINE, NOT_STARTING, USED];
+
+const HOLD_AGAIN: Kind = [0x1A, USED_MACHINE, HELD, USED];
+
+// Kinds that are refused: a node refined again, a start node removed, a transition into another machine, a start node held, a held node made
+// the start node, unknown opcodes.
 const REFINE_AGAIN: Kind = [0x12, FREE_MACHINE, REFINED, FREE];
 
 const REMOVE_START: Kind = [0x13, USED_MACHINE, STARTING, USED];
 
 const ARROW_APART: Kind = [0x14, USED_MACHINE, USED, APART];
 
+const HOLD_START: Kind = [0x1A, USED_MACHINE, STARTING, USED];
+
+const RESTART_HELD: Kind = [0x16, USED_MACHINE, HELD, USED];
+
 const BELOW_KNOWN: Kind = [0x0F, USED_MACHINE, USED, USED];
 
-const ABOVE_KNOWN: Kind = [0x19, USED_MACHINE, USED, USED];
+const BETWEEN_KNOWN: Kind = [0x19, USED_MACHINE, USED, USED];
+
+const ABOVE_KNOWN: Kind = [0x1B, USED_MACHINE, USED, USED];
 
 // Writes a byte, and gives the place after it; a full stream stays as it is.
 fn put(stream: &mut Bytes, at: usize, b: u32) -> usize {
@@ -78,7 +90,7 @@ fn put_pair(stream: &mut Bytes, at: usize, w: u32) -> usize {
     put(stream, next, w)
 }
 
-// Writes a node, and then a machine or a command.
+// Writes a node, and then a machine, a command or a hold.
 fn put_both(stream: &mut Bytes, at: usize, n: u32, b: u32) -> usize {
     let next = put_pair(stream, at, n);
     put(stream, next, b)
@@ -104,6 +116,7 @@ fn write(stream: &mut Bytes, at: usize, o: Order) -> usize {
             put_pair(stream, c, o.cost)
         }
         0x15 => put_both(stream, a, o.node, o.command),
+        0x1A => put_both(stream, a, o.node, o.hold),
         _ => a,
     }
 }
@@ -120,32 +133,54 @@ fn random_cost(seed: &mut u64, shape: u32) -> u32 {
     draw(seed, most)
 }
 
+// The byte of a hold: 1 twice as often as 0, and now and then another; often another where some symbols are out of range too.
+fn random_hold(seed: &mut u64, symbols: u32) -> u32 {
+    let k = draw(seed, if symbols > 16 { 6 } else { 192 });
+    if k == 0 {
+        return 2;
+    }
+    if k == 1 {
+        return draw(seed, 256);
+    }
+    if k % 3 == 0 { 0 } else { 1 }
+}
+
 // A command of a kind, with one of so many symbols where it has one.
 fn make(s: &Station, seed: &mut u64, shape: u32, kind: Kind, symbols: u32) -> Order {
     let m = pick(s, seed, kind[1], 0);
     let n = pick(s, seed, kind[2], depth(s));
     let v = pick(s, seed, kind[3], n);
     let x = draw(seed, symbols);
-    new_order(kind[0], m, n, v, x, random_cost(seed, shape))
+    let b = random_hold(seed, symbols);
+    new_order(kind[0], m, n, v, x, random_cost(seed, shape), b)
+}
+
+// The opcode of any edit but begin.
+fn any_edit(seed: &mut u64) -> u32 {
+    let k = draw(seed, 8);
+    if k == 7 { 0x1A } else { 0x11 + k }
 }
 
 // A kind for a command that is refused, or would be in most stations; in the last several things may be wrong at once.
 fn wrong_kind(seed: &mut u64) -> Kind {
-    let k = draw(seed, 12);
+    let k = draw(seed, 18);
     match k {
         0 => REFINE_AGAIN,
         1 => REMOVE_START,
         2 => ARROW_APART,
         3 => DEEPEN,
         4 => BELOW_KNOWN,
-        5 => ABOVE_KNOWN,
-        _ => [0x11 + draw(seed, 7), ANY_MACHINE, ANY, ANY],
+        5 => BETWEEN_KNOWN,
+        6 => ABOVE_KNOWN,
+        7 => HOLD_START,
+        8 => RESTART_HELD,
+        _ => [any_edit(seed), ANY_MACHINE, ANY, ANY],
     }
 }
 
 // A kind for a random command; the numbers say how often each comes.
 fn any_kind(seed: &mut u64, shape: u32) -> Kind {
-    let k = draw(seed, 64);
+    let k = draw(seed, 76);
     match k {
         0 => {
             if of(shape, shapes::CHURN) == 1 {
@@ -164,6 +199,8 @@ fn any_kind(seed: &mut u64, shape: u32) -> Kind {
         33..=34 => CROWN,
         35..=36 => REFRESH,
         37..=38 => wrong_kind(seed),
+        39..=48 => HOLD,
+        49..=50 => HOLD_AGAIN,
         _ => ARROW,
     }
 }
@@ -219,7 +256,11 @@ fn build(s: &mut Station, seed: &mut u64, shape: u32, stream: &mut Bytes) -> usi
     let d = repeat(s, seed, shape, REFINE, shapes::REFINED, stream, c);
     let e = repeat(s, seed, shape, ADD, shapes::MORE, stream, d);
     let f = repeat(s, seed, shape, ARROW, shapes::ARROWS, stream, e);
-    repeat(s, seed, shape, SELF, shapes::SELVES, stream, f)
+    let g = repeat(s, seed, shape, SELF, shapes::SELVES, stream, f);
+    if once_in(seed, 2) {
+        return g;
+    }
+    repeat(s, seed, shape, HOLD, shapes::HOLDS, stream, g)
 }
 
 // The length of a stream that is now and then cut short by a byte.
@@ -272,11 +313,11 @@ pub fn stream(
 // Writes the longest line that there can be, 256 nodes of one machine with a transition from each to the next at the largest cost, and gives
 // its length.
 pub fn line(bytes: &mut Bytes) -> usize {
-    let mut at = write(bytes, 0, new_order(0x10, 0, 0, 0, 0, 0));
+    let mut at = write(bytes, 0, new_order(0x10, 0, 0, 0, 0, 0, 0));
     let mut n = 1u32;
     while n < NODES {
-        let next = write(bytes, at, new_order(0x11, 0, n, 0, 0, 0));
-        at = write(bytes, next, new_order(0x14, 0, n - 1, n, 0, 65535));
+        let next = write(bytes, at, new_order(0x11, 0, n, 0, 0, 0, 0));
+        at = write(bytes, next, new_order(0x14, 0, n - 1, n, 0, 65535, 0));
         n += 1;
     }
     at

@@ -26,29 +26,31 @@ pub const REFINED: u32 = 10;
 pub const MORE: u32 = 11;
 // so many transitions,
 pub const ARROWS: u32 = 12;
-// and so many from refined nodes to themselves.
+// so many from refined nodes to themselves,
 pub const SELVES: u32 = 13;
+// and, half of the time, so many holds.
+pub const HOLDS: u32 = 14;
 // 1: begin is among the random commands.
-pub const CHURN: u32 = 14;
+pub const CHURN: u32 = 15;
 
-type Row = [u32; 15];
+type Row = [u32; 16];
 
 // Eight levels.
-const DEEP_BOOKS: Row = [0, 65535, 2, 8, 7, 2, 14, 64, 1, 7, 0, 14, 80, 8, 0];
+const DEEP_BOOKS: Row = [0, 65535, 2, 8, 10, 2, 14, 64, 1, 7, 0, 14, 80, 8, 8, 0];
 // Nearly all nodes in one machine.
-const WIDE_BOOKS: Row = [0, 65535, 0, 16, 3, 2, 12, 2, 253, 0, 0, 0, 700, 0, 0];
+const WIDE_BOOKS: Row = [0, 65535, 0, 16, 4, 2, 12, 2, 253, 0, 0, 0, 700, 0, 24, 0];
 // Most costs 0.
-const ZERO_BOOKS: Row = [0, 3, 7, 8, 6, 2, 14, 64, 4, 3, 3, 12, 90, 6, 0];
+const ZERO_BOOKS: Row = [0, 3, 7, 8, 9, 2, 14, 64, 4, 3, 3, 12, 90, 6, 9, 0];
 // Few transitions, so that much is not reached.
-const SPARSE_BOOKS: Row = [0, 99, 1, 16, 4, 2, 14, 64, 6, 2, 4, 14, 34, 3, 0];
+const SPARSE_BOOKS: Row = [0, 99, 1, 16, 6, 2, 14, 64, 6, 2, 4, 14, 34, 3, 8, 0];
 // Many transitions of refined nodes to themselves.
-const SELF_BOOKS: Row = [0, 20, 2, 9, 7, 2, 14, 64, 3, 2, 6, 12, 66, 24, 0];
+const SELF_BOOKS: Row = [0, 20, 2, 9, 10, 2, 14, 64, 3, 2, 6, 12, 66, 24, 9, 0];
 // The ladder.
-const LADDER_BOOKS: Row = [1, 65535, 1, 5, 4, 2, 20, 4, 0, 0, 0, 0, 20, 10, 0];
+const LADDER_BOOKS: Row = [1, 65535, 1, 5, 6, 2, 20, 4, 0, 0, 0, 0, 20, 10, 18, 0];
 // Nearly all machines and nodes in use.
-const CROWDED_BOOKS: Row = [0, 500, 2, 16, 3, 2, 20, 3, 20, 5, 54, 160, 750, 40, 0];
+const CROWDED_BOOKS: Row = [0, 500, 2, 16, 4, 2, 20, 3, 20, 5, 54, 160, 750, 40, 36, 0];
 // Small books, with many streams each.
-const EDITED_BOOKS: Row = [0, 50, 2, 8, 12, 8, 30, 40, 2, 1, 1, 4, 30, 3, 1];
+const EDITED_BOOKS: Row = [0, 50, 2, 8, 18, 8, 30, 40, 2, 1, 1, 4, 30, 3, 5, 1];
 
 const TABLE: [Row; 8] = [
     DEEP_BOOKS,
@@ -66,7 +68,7 @@ pub fn of(shape: u32, column: u32) -> u32 {
     if shape >= 8 {
         return 0;
     }
-    if column >= 15 {
+    if column >= 16 {
         return 0;
     }
     TABLE[shape as usize][column as usize]

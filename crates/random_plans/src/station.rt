@@ -12,7 +12,7 @@ pub const LEVELS: u32 = 8;
 pub const NONE: u32 = 65535;
 
 // The fields, with a word for each node or machine: owner and machine below of a node, start, holder and mark of a machine; the root at 0 of
-// its field; and for each command a field of targets and one of costs.
+// its field; for each command a field of targets and one of costs; and the hold of a node, 1 where it is held.
 pub const OWNER: u32 = 0;
 
 pub const BELOW: u32 = 1;
@@ -29,11 +29,18 @@ pub const TARGET: u32 = 6;
 
 pub const COST: u32 = 22;
 
-pub type Station = [u32; 9728];
+pub const HOLD: u32 = 38;
+
+pub const FIELDS: u32 = 39;
+
+// The words of all fields.
+pub const WORDS: usize = 9984;
+
+pub type Station = [u32; WORDS];
 
 // What a field has at a number; "none" outside.
 pub fn get(s: &Station, field: u32, i: u32) -> u32 {
-    if field >= 38 {
+    if field >= FIELDS {
         return NONE;
     }
     if i >= NODES {
@@ -44,7 +51,7 @@ pub fn get(s: &Station, field: u32, i: u32) -> u32 {
 
 // Writes a field at a number; outside, nothing.
 pub fn put(s: &mut Station, field: u32, i: u32, w: u32) {
-    if field >= 38 {
+    if field >= FIELDS {
         return;
     }
     if i < NODES {
@@ -63,6 +70,16 @@ pub fn transition(s: &Station, field: u32, n: u32, x: u32) -> u32 {
 // Whether node n is in use and plain.
 pub fn is_state(s: &Station, n: u32) -> bool {
     get(s, OWNER, n) != NONE && get(s, BELOW, n) == NONE
+}
+
+// Whether node n is the start node of its machine.
+pub fn is_start(s: &Station, n: u32) -> bool {
+    get(s, START, get(s, OWNER, n)) == n
+}
+
+// Whether node n is held.
+pub fn is_held(s: &Station, n: u32) -> bool {
+    get(s, HOLD, n) == 1
 }
 
 // The node that holds node n's machine; none at the root's nodes.
@@ -130,14 +147,33 @@ fn one_if(b: bool) -> u32
     if b { 1 } else { 0 }
 }
 
-// Whether a machine is marked.
-pub fn any_marked(s: &Station) -> bool {
-    let mut m = 0u32;
-    while m < MACHINES {
-        if get(s, MARK, m) == 1 {
+// Whether a field has a 1.
+fn any_one(s: &Station, field: u32) -> bool {
+    let mut i = 0u32;
+    while i < NODES {
+        if get(s, field, i) == 1 {
             return true;
         }
-        m += 1;
+        i += 1;
     }
     false
+}
+
+// Whether a machine is marked.
+pub fn any_marked(s: &Station) -> bool {
+    any_one(s, MARK)
+}
+
+// Whether a node is held.
+pub fn any_held(s: &Station) -> bool {
+    any_one(s, HOLD)
+}
+
+// Makes a field 0 at all numbers.
+pub fn zero(s: &mut Station, field: u32) {
+    let mut i = 0u32;
+    while i < NODES {
+        put(s, field, i, 0);
+        i += 1;
+    }
 }

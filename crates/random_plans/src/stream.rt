@@ -13,6 +13,8 @@ use crate::station::START;
 use crate::station::Station;
 use crate::station::depth;
 use crate::station::get;
+use crate::station::is_held;
+use crate::station::is_start;
 use crate::station::level;
 
 // A stream's bytes stand at the front; how many there are goes beside it.
@@ -29,18 +31,21 @@ pub struct Order {
     pub other: u32,
     pub command: u32,
     pub cost: u32,
+    pub hold: u32,
 }
 
-// What became of the next command: the bytes that it took; or 0, and the refusal, 0 at the stream's end.
+// What became of the next command: the bytes that it took, and 1 where it holds a node; or 0, and the refusal, 0 at the stream's end.
 pub struct Turn {
     pub size: usize,
+    pub hold: u32,
     pub number: u32,
 }
 
-// Bytes taken, commands taken, and 0 or the refusal.
+// Bytes taken, commands taken, those that hold a node, and 0 or the refusal.
 pub struct Counts {
     pub bytes: usize,
     pub commands: usize,
+    pub holds: usize,
     pub number: u32,
 }
 
@@ -76,7 +81,7 @@ fn operands(op: u32) -> usize
     ensures { λ r. ⌜ r ≤ 9 ⌝ }
 {
     match op {
-        0x10 | 0x11 | 0x15 | 0x17 => 3,
+        0x10 | 0x11 | 0x15 | 0x17 | 0x1A => 3,
         0x12 => 5,
         0x13 | 0x16 => 2,
         0x14 => 7,
@@ -86,7 +91,15 @@ fn operands(op: u32) -> usize
 }
 
 // A command of a stream, with its operands.
-pub fn new_order(op: u32, machine: u32, node: u32, other: u32, command: u32, cost: u32) -> Order {
+pub fn new_order(
+    op: u32,
+    machine: u32,
+    node: u32,
+    other: u32,
+    command: u32,
+    cost: u32,
+    hold: u32,
+) -> Order {
     Order {
         op,
         machine,
@@ -94,6 +107,7 @@ pub fn new_order(op: u32, machine: u32, node: u32, other: u32, command: u32, cos
         other,
         command,
         cost,
+        hold,
     }
 }
 
@@ -102,17 +116,19 @@ fn decode(stream: &Bytes, at: usize) -> Order {
     let op = one(stream, at, 0);
     let first = two(stream, at, 1);
     let third = one(stream, at, 3);
+    let fourth = two(stream, at, 4);
     match op {
-        0x12 => new_order(op, third, first, two(stream, at, 4), 0, 0),
-        0x13 | 0x16 => new_order(op, 0, first, 0, 0, 0),
-        0x14 => new_order(op, 0, first, two(stream, at, 4), third, two(stream, at, 6)),
-        0x15 => new_order(op, 0, first, 0, third, 0),
-        0x18 => new_order(op, 0, 0, 0, 0, 0),
-        _ => new_order(op, one(stream, at, 1), two(stream, at, 2), 0, 0, 0),
+        0x12 => new_order(op, third, first, fourth, 0, 0, 0),
+        0x13 | 0x16 => new_order(op, 0, first, 0, 0, 0, 0),
+        0x14 => new_order(op, 0, first, fourth, third, two(stream, at, 6), 0),
+        0x15 => new_order(op, 0, first, 0, third, 0, 0),
+        0x18 => new_order(op, 0, 0, 0, 0, 0, 0),
+        0x1A => new_order(op, 0, first, 0, 0, 0, third),
+        _ => new_order(op, one(stream, at, 1), two(stream, at, 2), 0, 0, 0, 0),
     }
 }
 
-// 6: a number out of range.
+// 6: a number out of range, or a hold that is neither 1 nor 0.
 fn out_of_range(o: Order) -> bool {
     if o.machine >= MACHINES {
         return true;
@@ -123,7 +139,10 @@ fn out_of_range(o: Order) -> bool {
     if o.other >= NODES {
         return true;
     }
-    o.command >= COMMANDS
+    if o.command >= COMMANDS {
+        return true;
+    }
+    o.hold > 1
 }
 
 // 7: a machine or node not in use.
@@ -131,7 +150,7 @@ fn missing(s: &Station, o: Order) -> bool {
     let op = o.op;
     match op {
         0x11 => get(s, START, o.machine) == NONE,
-        0x12 | 0x13 | 0x15 | 0x16 => get(s, OWNER, o.node) == NONE,
+        0x12 | 0x13 | 0x15 | 0x16 | 0x1A => get(s, OWNER, o.node) == NONE,
         0x14 => get(s, OWNER, o.node) == NONE || get(s, OWNER, o.other) == NONE,
         _ => false,
     }
@@ -148,13 +167,16 @@ fn in_use(s: &Station, o: Order) -> bool {
     }
 }
 
-// 9: refine of a node that is refined already; 10: remove of a start node; 11: a transition into another machine. 0 where none holds.
+// 9: refine of a node that is refined already; 10: remove of a start node; 11: a transition into another machine; 21: a held node made
+// the start node, or the start node held. 0 where nothing is so.
 fn misplaced(s: &Station, o: Order) -> u32 {
     let op = o.op;
     match op {
         0x12 => number_if(get(s, BELOW, o.node) != NONE, 9),
-        0x13 => number_if(get(s, START, get(s, OWNER, o.node)) == o.node, 10),
+        0x13 => number_if(is_start(s, o.node), 10),
         0x14 => number_if(get(s, OWNER, o.node) != get(s, OWNER, o.other), 11),
+        0x16 => number_if(is_held(s, o.node), 21),
+        0x1A => number_if(o.hold == 1 && is_start(s, o.node), 21),
         _ => 0,
     }
 }
@@ -169,9 +191,9 @@ fn too_deep(s: &Station, o: Order) -> bool {
     }
 }
 
-// The number where it holds, else 0.
-fn number_if(holds: bool, number: u32) -> u32 {
-    if holds { number } else { 0 }
+// The number where it is so, else 0.
+fn number_if(b: bool, number: u32) -> u32 {
+    if b { number } else { 0 }
 }
 
 // The number that an order is refused with on this station; 0 where it is taken.
@@ -204,13 +226,18 @@ fn perform(s: &mut Station, o: Order) {
         0x15 => edits::arrow(s, o.node, o.command, NONE, NONE),
         0x16 => edits::restart(s, o.node),
         0x17 => edits::crown(s, o.machine, o.node),
+        0x1A => edits::set_hold(s, o.node, o.hold),
         _ => edits::unmark(s),
     }
 }
 
 // A turn that takes nothing, with the number of its refusal.
 fn stopped(number: u32) -> Turn {
-    Turn { size: 0, number }
+    Turn {
+        size: 0,
+        hold: 0,
+        number,
+    }
 }
 
 // Does the command at a place of a stream of this length, or says why not.
@@ -233,6 +260,7 @@ pub fn take(s: &mut Station, stream: &Bytes, length: usize, at: usize) -> Turn {
     perform(s, order);
     Turn {
         size: size + 1,
+        hold: order.hold,
         number: 0,
     }
 }
@@ -241,6 +269,7 @@ pub fn take(s: &mut Station, stream: &Bytes, length: usize, at: usize) -> Turn {
 pub fn run(s: &mut Station, stream: &Bytes, length: usize) -> Counts {
     let mut bytes = 0usize;
     let mut commands = 0usize;
+    let mut holds = 0usize;
     while commands < 8192 {
         let turn = take(s, stream, length, bytes);
         let size = turn.size;
@@ -248,15 +277,18 @@ pub fn run(s: &mut Station, stream: &Bytes, length: usize) -> Counts {
             return Counts {
                 bytes,
                 commands,
+                holds,
                 number: turn.number,
             };
         }
         bytes += size % 16;
         commands += 1;
+        holds = holds % 8192 + (turn.hold % 2) as usize;
     }
     Counts {
         bytes,
         commands,
+        holds,
         number: 0,
     }
 }

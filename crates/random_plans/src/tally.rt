@@ -20,6 +20,13 @@ pub const PLANS: u32 = 67;
 
 pub const DIFFERENCES: u32 = 68;
 
+// Holds that were taken, plans with a node held, and those of them that would have another cost with none held.
+pub const HOLDS: u32 = 69;
+
+pub const AMONG_HOLDS: u32 = 70;
+
+pub const CHANGED: u32 = 71;
+
 // The count at a place.
 pub fn get(tally: &Tally, i: u32) -> u64 {
     if i < 72 { tally[i as usize] } else { 0 }
@@ -47,9 +54,9 @@ pub fn say(t: &[u8], n: u64) {
 // The refusals that were met, each number with how often; those of Plan but for 'no way'.
 fn refusals(tally: &Tally, base: u32) {
     let mut k = 1u32;
-    while k < 16 {
+    while k < 32 {
         let times = get(tally, base % 64 + k);
-        if times != 0 {
+        if times != 0 && k != 16 {
             say(b" ", k as u64);
             say(b":", times);
         }
@@ -63,9 +70,12 @@ pub fn line(name: &[u8], tally: &Tally) {
     say(b": books ", get(tally, BOOKS));
     say(b", streams ", get(tally, STREAMS));
     say(b", commands taken ", get(tally, COMMANDS));
+    say(b", holds ", get(tally, HOLDS));
     text(b", refused");
     refusals(tally, LOAD);
     say(b"; plans ", get(tally, PLANS));
+    say(b", among holds ", get(tally, AMONG_HOLDS));
+    say(b", changed by them ", get(tally, CHANGED));
     say(b", no way ", get(tally, NO_WAY));
     text(b", refused");
     refusals(tally, PLAN);

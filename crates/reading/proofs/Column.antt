@@ -16,14 +16,22 @@ use Rattle.definitions.proofs.Tests.{allBelow, all-below, isNone, isNone-true}
 use Rattle.reading.specs.Column.{place, numberAt, entry}
 use Rattle.reading.proofs.Laws.{unknown}
 
--- the opcodes from 0x10 on have a place, those below it have none
-pub place-from : (op : ℕ) → 0x10 ≤ op → place op ≡ some (op - 0x10)
+-- the opcodes from 0x10 on have a place, but for 0x19; those below have none
+pub place-from : (op : ℕ) → 0x10 ≤ op → op < 0x19 → place op ≡ some (op - 0x10)
 unfolding place
-place-from op from = rw (le-leb 0x10 op from)
+place-from op from until = rw (lt-ltb op 0x19 until, le-leb 0x10 op from)
+
+pub place-on : (op : ℕ) → 0x19 < op → place op ≡ some (op - 0x11)
+unfolding place
+place-on op on = rw (le-ltb op 0x19 (omega arith), lt-ltb 0x19 op on)
 
 pub place-below : (op : ℕ) → op < 0x10 → place op ≡ none
 unfolding place
-place-below op below = rw (lt-leb 0x10 op below)
+place-below op below = rw (lt-ltb op 0x19 (omega arith), lt-leb 0x10 op below)
+
+pub place-gap : (op : ℕ) → op ≡ 0x19 → place op ≡ none
+unfolding place
+place-gap op same = rw same
 
 -- the entry of an opcode: in the column, behind its end, without a place
 module _ (column : List ℕ) (op : ℕ) {i : ℕ} (here : place op ≡ some i) where
@@ -53,17 +61,17 @@ says column op = same (place op >>= numberAt column) (operandLength op)
 
 -- whether it says that of every opcode under 0x20, and ends before the place of 0x20
 unfoldable pub columnRight : List ℕ → Bool
-columnRight column = leb (length column) 0x10 && allBelow 0x20 (says column)
+columnRight column = leb (length column) 0x0F && allBelow 0x20 (says column)
 
 -- A column that passes the test says the operand length of every opcode.
 pub column-right : (column : List ℕ) → columnRight column ≡ true → (op : ℕ) → entry column op ≡ operandLength op
 unfolding columnRight entry
 column-right column e op =
-    let (short, all) = and-true (leb (length column) 0x10) (allBelow 0x20 (says column)) e in
+    let (short, all) = and-true (leb (length column) 0x0F) (allBelow 0x20 (says column)) e in
     ⊎-elim (λ small. same-is (place op >>= numberAt column) (operandLength op) (all-below 0x20 (says column) all op small))
     (λ far.
-    entry-behind column op (place-from op (omega arith)) (omega (arith, leb-true (length column) 0x10 short))
+    entry-behind column op (place-on op (omega arith)) (omega (arith, leb-true (length column) 0x0F short))
     ∙ sym
     (unknown op (λ e. omega arith) (λ e. omega arith) (λ e. omega arith) (λ e. omega arith) (λ e. omega arith) (λ e. omega arith)
-    (λ e. omega arith) (λ e. omega arith) (λ e. omega arith)))
+    (λ e. omega arith) (λ e. omega arith) (λ e. omega arith) (λ e. omega arith)))
     (less-or-not op 0x20)

@@ -12,11 +12,11 @@ use Rattle.definitions.specs.Stream.{Command, ended, taken, refused, operandLen
 use Rattle.definitions.proofs.Options.{none-some}
 use Rattle.definitions.proofs.Streams.{known-decodes, read-nothing, read-unknown, read-cut, read-whole}
 
--- an opcode outside 0x10 to 0x18 is unknown
+-- an opcode that is none of these is unknown
 pub unknown : (op : ℕ) → (op ≡ 0x10 → ⊥) → (op ≡ 0x11 → ⊥) → (op ≡ 0x12 → ⊥) → (op ≡ 0x13 → ⊥) → (op ≡ 0x14 → ⊥)
-    → (op ≡ 0x15 → ⊥) → (op ≡ 0x16 → ⊥) → (op ≡ 0x17 → ⊥) → (op ≡ 0x18 → ⊥) → operandLength op ≡ none
+    → (op ≡ 0x15 → ⊥) → (op ≡ 0x16 → ⊥) → (op ≡ 0x17 → ⊥) → (op ≡ 0x18 → ⊥) → (op ≡ 0x1A → ⊥) → operandLength op ≡ none
 unfolding operandLength
-unknown op a b c d e f g h i =
+unknown op a b c d e f g h i j =
     rw (
       ne-eqb op 0x10 a,
       ne-eqb op 0x11 b,
@@ -27,6 +27,7 @@ unknown op a b c d e f g h i =
       ne-eqb op 0x16 g,
       ne-eqb op 0x17 h,
       ne-eqb op 0x18 i,
+      ne-eqb op 0x1A j,
     )
 
 -- ---- what stands next behind the bytes that are taken

@@ -1,4 +1,5 @@
--- Document 02, W-204: a column of operand lengths, and the place that an opcode has in it.
+-- Document 02, W-204: a column of operand lengths, and the place that an opcode has in it (0x1A, W-205's, has the tenth).
+use mathlib.Core.Bool.{cond}
 use mathlib.Core.Option.{Option}
 use mathlib.Core.List.{List}
 use Prim.Native.Nat.{ℕ, _-_}
@@ -7,9 +8,9 @@ use lib.ListN.{length, getD}
 use Rattle.definitions.specs.Basics.{_>>=_}
 use Rattle.definitions.specs.Open.{given}
 
--- the place of an opcode: 0x10 has the first, and from there on each has the next
+-- the place of an opcode: 0x10 has the first, and from there on each has the next, but for 0x19, the session's plan, which has none
 unfoldable pub place : ℕ → Option ℕ
-place op = given (leb 0x10 op) (op - 0x10)
+place op = cond (ltb op 0x19) (given (leb 0x10 op) (op - 0x10)) (given (ltb 0x19 op) (op - 0x11))
 
 -- the number at a place of a column; none behind its end
 abbrev pub numberAt : List ℕ → ℕ → Option ℕ

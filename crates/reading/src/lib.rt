@@ -6,7 +6,7 @@ ghost use Rattle.definitions.specs.Stream.{operandLength, byteAt, pairAt, decod
 ghost use Rattle.reading.specs.Column.{place, entry};
 ghost use Rattle.reading.specs.Meaning.{placeOf, operandsOf, decodedOf, NarrowDecoded, Whole, NextRead};
 
-// The nine commands of a stream, with their operands.
+// The ten commands of a stream, with their operands.
 pub enum Command {
     Begin {
         machine: u32,
@@ -42,11 +42,15 @@ pub enum Command {
         node: u32,
     },
     Refresh,
+    Hold {
+        node: u32,
+        hold: u32,
+    },
 }
 
-// The column of operand lengths: how many bytes of operands each opcode of document 01's list has, in the order of that list. Nodes and
-// costs take two bytes, machines and commands one.
-const LENGTHS: [u8; 9] = [
+// The column of operand lengths: how many bytes of operands each opcode of document 01's list has, in the order of that list, and then those
+// of document 02. Nodes and costs take two bytes, machines, commands and holds one.
+const LENGTHS: [u8; 10] = [
     3, // 0x10 begin: machine, start node
     3, // 0x11 add: machine, new node
     5, // 0x12 refine: node, new machine, its new start node
@@ -56,6 +60,7 @@ const LENGTHS: [u8; 9] = [
     2, // 0x16 start: node
     3, // 0x17 crown: new root machine, its one node
     0, // 0x18 refresh
+    3, // 0x1A hold: node, 1 or 0
 ];
 
 // The place of an opcode in a column, which may end before it; or that the opcode has none.
@@ -110,14 +115,15 @@ pub fn operand_pair(stream: &[u8], at: usize, k: usize) -> u32
     high * 256 + low
 }
 
-// The place of an opcode: 0x10 has the first.
+// The place of an opcode: 0x10 has the first. 0x19, the session's plan, is no command of a stream and has none.
 fn locate(op: u32) -> Place
     ensures { λ r. ⌜ placeOf r ≡ place op ⌝ }
 {
-    if op < 0x10 {
-        return Place::Nowhere;
+    match op {
+        0x10..=0x18 => Place::At((op - 0x10) as usize),
+        0x1A..=0xFFFFFFFF => Place::At((op - 0x11) as usize),
+        0x00..=0x0F | 0x19 => Place::Nowhere,
     }
-    Place::At((op - 0x10) as usize)
 }
 
 // The number that a column has for an opcode. An opcode that has no place in the column is unknown.
@@ -180,7 +186,11 @@ fn decode(stream: &[u8], at: usize, op: u32) -> Decoded
             node: operand_pair(stream, at, 1),
         }),
         0x18 => Decoded::Known(Command::Refresh),
-        0x00..=0x0F | 0x19..=0xFFFFFFFF => Decoded::Unknown,
+        0x1A => Decoded::Known(Command::Hold {
+            node: operand_pair(stream, at, 0),
+            hold: operand(stream, at, 2),
+        }),
+        0x00..=0x0F | 0x19 | 0x1B..=0xFFFFFFFF => Decoded::Unknown,
     }
 }
 

@@ -58,7 +58,7 @@ module _ {t : Tree} (r : Rows) (n x d : ℕ) where
   pub way-unreached : d ≡ unreached → WayCosts t r n (reached d) x unreached
   way-unreached e = no-way (λ c way. reached-some d (way .reached) .1 e)
 
-  -- a node with a transition for the command
+  -- a node with a transition that counts for the command
   pub way-taken : {w : ℕ} → Sound t → w ≡ transitionWord (counting t n x) → (w ≡ blank → ⊥) → WayCosts t r n (reached d) x unreached
   way-taken sound says there = no-way (λ c way. none-some (way .free) (some-counting sound n x says there))
 

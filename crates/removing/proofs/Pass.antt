@@ -1,7 +1,7 @@
 -- The one look at the nodes: below the node in hand each record and row is as remove leaves it, from there on as it was. Assumes nothing.
 use mathlib.Core.Path.{_≡_, refl, ap, sym, _∙_, fun-ext}
 use mathlib.Core.Logic.{⊎-elim}
-use mathlib.Core.Bool.{Bool, true, false, _||_}
+use mathlib.Core.Bool.{Bool, true, false, _||_, cond}
 use mathlib.Core.Option.{Option, none, some}
 use mathlib.Core.List.{List}
 use Prim.Native.Nat.{ℕ, _+_, _≤_, _<_}
@@ -89,7 +89,7 @@ module _ (book : List ℕ) (gone : ℕ → Bool) (n k : ℕ) where
       (row-kept (rowsOf sheet) ∙ row-by (rowsOf sheet) gone k off)
     where
       record-kept : (t : Tree) → withoutIntoAt t n k ≡ withNodeOf t (withoutInto t n) k
-      record-kept t = sym (λ i. withNodes t (put-own (t .owner) k i) (put-own (t .below) k i) (withoutIntoAt t n k .transition))
+      record-kept t = sym (λ i. withNodes t (put-own (t .owner) k i) (put-own (t .below) k i) (withoutIntoAt t n k .transition) (put-own (t .hold) k i))
 
       row-kept : (r : Rows) → r ≡ withRowOf r r k
       row-kept r =
@@ -125,6 +125,7 @@ module _ (book : List ℕ) (gone : ℕ → Bool) (n k : ℕ) where
 abbrev pub treeTo : Tree → Tree → ℕ → Tree
 treeTo t u i =
     withNodes t (grown (t .owner) (u .owner) i) (grown (t .below) (u .below) i) (grown (t .transition) (u .transition) i)
+    (grown (t .hold) (u .hold) i)
 
 abbrev pub rowsTo : Rows → Rows → ℕ → Rows
 rowsTo r q i =
@@ -142,6 +143,7 @@ tree-none : (t u : Tree) → t ≡ treeTo t u 0
 tree-none t u =
     λ i.
     withNodes t (grown-none (t .owner) (u .owner) i) (grown-none (t .below) (u .below) i) (grown-none (t .transition) (u .transition) i)
+    (grown-none (t .hold) (u .hold) i)
 
 rows-none : (r q : Rows) → r ≡ rowsTo r q 0
 rows-none r q =
@@ -153,11 +155,11 @@ grown-on : {A : Type 0} (f g : ℕ → A) (i : ℕ) {v : A} → v ≡ g i → pu
 grown-on f g i e = ap (put (grown f g i) i) e ∙ grown-more f g i
 
 tree-more : (t u v : Tree) (i : ℕ) → v .owner i ≡ u .owner i → v .below i ≡ u .below i → v .transition i ≡ u .transition i
-    → withNodeOf (treeTo t u i) v i ≡ treeTo t u (i + 1)
-tree-more t u v i owner below transition =
+    → v .hold i ≡ u .hold i → withNodeOf (treeTo t u i) v i ≡ treeTo t u (i + 1)
+tree-more t u v i owner below transition hold =
     λ j.
     withNodes t (grown-on (t .owner) (u .owner) i owner j) (grown-on (t .below) (u .below) i below j)
-    (grown-on (t .transition) (u .transition) i transition j)
+    (grown-on (t .transition) (u .transition) i transition j) (grown-on (t .hold) (u .hold) i hold j)
 
 rows-more : (r q p : Rows) (i : ℕ) → p .cost i ≡ q .cost i → p .before i ≡ q .before i → p .by i ≡ q .by i
     → withRowOf (rowsTo r q i) p i ≡ rowsTo r q (i + 1)
@@ -178,6 +180,7 @@ module _ (gone test : ℕ → Bool) (n i : ℕ) (agree : gone i ≡ test i) wher
       (fun-ext λ x.
       same (notInto n (t .transition i x))
       (ap (λ (f : ℕ → Option Transition). notInto n (f x)) (grown-at (t .transition) (cut t test n .transition) i)))
+      (ap (cond (gone i) 0) (grown-at (t .hold) (cut t test n .hold) i) ∙ ap (λ (b : Bool). cond b 0 (t .hold i)) agree)
 
   blank-more : (r : Rows)
       → withRowOf (rowsTo r (withBlankNodes r test) i) (withBlankNodes (rowsTo r (withBlankNodes r test) i) gone) i
@@ -210,7 +213,12 @@ module _ (ws : List ℕ) (test : ℕ → Bool) where
       fun-ext λ x.
       let free = past-none k (under commands x (transitionOf (nodeWord ws k (2 + x)))) past in
       stays-none (test k) free (ap (notInto n) free)) in
-      λ i. withNodes (treeOf ws) (owner i) (below i) (transition i)
+      let hold = grown-all (treeOf ws .hold) (cut (treeOf ws) test n .hold) nodes (λ k past. rw (le-ltb k nodes past) (zeros (test k))) in
+      λ i. withNodes (treeOf ws) (owner i) (below i) (transition i) (hold i)
+    where
+      zeros : (b : Bool) → _≡_ {A = ℕ} 0 (cond b 0 0)
+      zeros true = refl
+      zeros false = refl
 
   blank-all : rowsTo (rowsOf ws) (withBlankNodes (rowsOf ws) test) nodes ≡ withBlankNodes (rowsOf ws) test
   unfolding rowsOf

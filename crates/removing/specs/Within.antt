@@ -7,9 +7,9 @@ use mathlib.Core.List.{List}
 use Prim.Native.Nat.{ℕ, _<_}
 use lib.Dec.{eqb}
 use lib.ListN.{length}
-use Rattle.definitions.specs.Basics.{_>>=_, unless, put}
+use Rattle.definitions.specs.Basics.{put}
 use Rattle.definitions.specs.Limits.{machines}
-use Rattle.definitions.specs.Tree.{Tree, Transition, withNodes, withTransitions, within}
+use Rattle.definitions.specs.Tree.{Tree, Transition, withNodes, withTransitions, within, unlessInto}
 use Rattle.definitions.specs.Book.{treeOf}
 use Rattle.definitions.specs.Sheet.{Rows, rowsOf}
 use Rattle.book.specs.Chosen.{chosen}
@@ -24,7 +24,7 @@ pub record Listed (i : ℕ) (test : ℕ → Bool) (list : List ℕ) : Type 0 whe
 
 -- a transition, but none where its target is n
 abbrev pub notInto : ℕ → Option Transition → Option Transition
-notInto n o = o >>= λ a. unless (eqb (a .target) n) (some a)
+notInto n = unlessInto (λ v. eqb v n)
 
 -- the tree where node k has no transition into n, and where no node has one
 abbrev pub withoutIntoAt : Tree → ℕ → ℕ → Tree
@@ -45,6 +45,7 @@ cut t gone n = withoutNodes (withoutInto t n) gone
 abbrev pub withNodeOf : Tree → Tree → ℕ → Tree
 withNodeOf t u k =
     withNodes t (put (t .owner) k (u .owner k)) (put (t .below) k (u .below k)) (put (t .transition) k (u .transition k))
+    (put (t .hold) k (u .hold k))
 
 abbrev pub withRowOf : Rows → Rows → ℕ → Rows
 withRowOf r q k =

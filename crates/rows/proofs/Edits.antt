@@ -1,25 +1,26 @@
 -- Every edit touches machines with all above them and leaves every other machine in use as it was, so it keeps the rows true.
 -- Assumes nothing.
 use mathlib.Core.Path.{_≡_, refl, sym, _∙_, ap, subst}
-use mathlib.Core.Logic.{_⊎_, inl, inr}
+use mathlib.Core.Logic.{_⊎_, inl, inr, ⊎-elim}
 use mathlib.Core.Bool.{true, false, _||_, or-true}
 use mathlib.Core.Option.{Option, none, some}
 use Prim.Native.Nat.{ℕ, suc}
 use lib.Dec.{eqb}
 use borrow.Author.Tests.{eqb-true, eqb-false, ne-eqb}
 use Rattle.definitions.specs.Basics.{option, iterate}
-use Rattle.definitions.specs.Tree.{Tree, Transition, Sound, parent, within, over}
+use Rattle.definitions.specs.Tree.{Tree, Transition, Sound, onHold, parent, within, over}
 use Rattle.definitions.specs.Step.{counting, leaving}
 use Rattle.definitions.specs.Sheet.{Rows}
 use Rattle.definitions.specs.Truth.{TrueRows}
 use Rattle.definitions.specs.Stream.{Edit, edit}
 use Rattle.definitions.specs.Edit.{refusal, edited, touches, editedRows}
 use Rattle.definitions.specs.Open.{openRows}
-use Rattle.definitions.proofs.Options.{iterate-more, bind-some, none-some, some-same, true-false, equal-or-not}
+use Rattle.definitions.proofs.Options.{iterate-more, bind-some, present, none-some, some-same, decided, true-false, equal-or-not}
+use Rattle.definitions.proofs.Path.{counting-some, counting-shut, counting-none}
 use Rattle.definitions.proofs.Commands.{neither, not-true-false, over-climbs, climbs-over, HeldWithin, free-test}
-use Rattle.definitions.proofs.Commands.{Changed, Begun, Added, Refined, Removed, OneTransition, Started, Crowned, Does, does}
+use Rattle.definitions.proofs.Commands.{Changed, Begun, Added, Refined, Removed, OneTransition, Started, HoldSet, Crowned, Does, does}
 use Rattle.definitions.proofs.Commands.{TakenRefine, TakenCrown, taken-add, taken-refine, taken-remove}
-use Rattle.definitions.proofs.Commands.{taken-arrow, taken-clear, taken-crown}
+use Rattle.definitions.proofs.Commands.{taken-arrow, taken-clear, taken-crown, taken-hold}
 use Rattle.definitions.proofs.Kept.{kept-down, CostInRange, edited-sound}
 use Rattle.rows.proofs.Locality.{SameMachine}
 use Rattle.rows.proofs.Open.{open-true}
@@ -63,18 +64,33 @@ leaving-same : (t u : Tree) (b : ℕ) → leaving u b ≡ leaving t b
 unfolding leaving
 leaving-same t u b = refl
 
+-- where a node's transition and the holds of its machine's nodes are the same, the transition that counts is
+counting-same : {t : Tree} → Sound t → (u : Tree) (n x : ℕ) {p : ℕ} → t .owner n ≡ some p → u .transition n x ≡ t .transition n x
+    → ((k : ℕ) → t .owner k ≡ some p → u .hold k ≡ t .hold k) → counting u n x ≡ counting t n x
+counting-same {t} s u n x {p} own same hold = ⊎-elim absent there (present (t .transition n x))
+  where
+    absent : t .transition n x ≡ none → counting u n x ≡ counting t n x
+    absent e = counting-none u n x (same ∙ e) ∙ sym (counting-none t n x e)
+
+    there : (a : Transition) × (t .transition n x ≡ some a) → counting u n x ≡ counting t n x
+    there (a, e) =
+        let (m, here, target) = s .transition-owned n x a e in
+        let held : onHold u (a .target) ≡ onHold t (a .target) = ap (λ (h : ℕ). eqb h 1) (hold (a .target) (cc)) in
+        ⊎-elim (λ shut. counting-shut u n x a (same ∙ e) (held ∙ shut) ∙ sym (counting-shut t n x a e shut))
+        (λ free. counting-some u n x a (same ∙ e) (held ∙ free) ∙ sym (counting-some t n x a e free)) (decided (onHold t (a .target)))
+
 -- a machine whose fields are the same
-fields-same : {t u : Tree} {p : ℕ} → u .start p ≡ t .start p → ((k : ℕ) → t .owner k ≡ some p → u .owner k ≡ some p)
+fields-same : {t : Tree} → Sound t → {u : Tree} {p : ℕ} → u .start p ≡ t .start p → ((k : ℕ) → t .owner k ≡ some p → u .owner k ≡ some p)
     → ((k : ℕ) → u .owner k ≡ some p → t .owner k ≡ some p) → ((k : ℕ) → t .owner k ≡ some p → u .below k ≡ t .below k)
-    → ((k x : ℕ) → t .owner k ≡ some p → u .transition k x ≡ t .transition k x) → SameMachine t u p
-unfolding counting
-fields-same {t} {u} start owned owner below transition =
+    → ((k x : ℕ) → t .owner k ≡ some p → u .transition k x ≡ t .transition k x)
+    → ((k : ℕ) → t .owner k ≡ some p → u .hold k ≡ t .hold k) → SameMachine t u p
+fields-same {t} s {u} start owned owner below transition hold =
     record {
       start = start;
       owned = owned;
       owner = owner;
       below = below;
-      counting = λ n x own range. transition n x own;
+      counting = λ n x own range. counting-same s u n x own (transition n x own) hold;
       leaving = λ n b own down. leaving-same t u b;
     }
 
@@ -125,8 +141,8 @@ add-spares {t} s {m} {n} {f} {u} st new law =
     let held-t : t .holder q ≡ some h = sym (law .holder q) ∙ held in
     (held-t, changed-back (law .owner) new h (s .holder-used q h held-t .1) up))
     (λ p g used off.
-    fields-same (law .start p) (λ k e. changed-kept (law .owner) new k e) (λ k e. changed-old (law .owner) k (not-owner s own off) e)
-    (λ k e. law .below k) (λ k x e. law .transition k x))
+    fields-same s (law .start p) (λ k e. changed-kept (law .owner) new k e) (λ k e. changed-old (law .owner) k (not-owner s own off) e)
+    (λ k e. law .below k) (λ k x e. law .transition k x) (λ k e. law .hold k))
 
 -- refine: a machine that is not the new one and not over node n has neither the new node nor n
 refine-spares : {t : Tree} → Sound t → {n m f : ℕ} {u : Tree} {r q : Rows} → TakenRefine t n m f → Refined t n m f u r q
@@ -140,9 +156,9 @@ refine-spares {t} s {n} {m} {f} {u} taken law =
       same = λ p g used off.
           let (old, away) = neither off in
           let other : p ≡ m → ⊥ = eqb-false p m old in
-          fields-same (law .start .elsewhere p other) (λ k e. changed-kept (law .owner) (taken .first-new) k e)
+          fields-same s (law .start .elsewhere p other) (λ k e. changed-kept (law .owner) (taken .first-new) k e)
           (λ k e. changed-old (law .owner) k other e) (λ k e. law .below .elsewhere k (not-node s own away e))
-          (λ k x e. law .transition k x);
+          (λ k x e. law .transition k x) (λ k e. law .hold k);
     }
   where
     over-up : (q p h : ℕ) → (eqb q m || over t q n) ≡ true → u .holder q ≡ some h → u .owner h ≡ some p → (q ≡ m) ⊎ (q ≡ m → ⊥)
@@ -163,9 +179,10 @@ remove-spares : {t : Tree} → Sound t → {n o : ℕ} {u : Tree} {r q : Rows} �
 remove-spares {t} s {n} {o} {u} own law =
     over-spares s u own (λ q h p held up. (sym (law .holder-kept q (λ w. none-some (law .holder-gone q w) held)) ∙ held, was h p up))
     (λ p g used off.
-    fields-same (law .start-kept p (free p g used)) (λ k e. law .owner-kept k (left p g used off k e) ∙ e) (λ k e. was k p e)
+    fields-same s (law .start-kept p (free p g used)) (λ k e. law .owner-kept k (left p g used off k e) ∙ e) (λ k e. was k p e)
     (λ k e. law .below-kept k (left p g used off k e))
-    (λ k x e. law .transition-kept k x (left p g used off k e) (λ a has. not-node s own off (stays p k x e a has))))
+    (λ k x e. law .transition-kept k x (left p g used off k e) (λ a has. not-node s own off (stays p k x e a has)))
+    (λ k e. law .hold-kept k (left p g used off k e)))
   where
     -- a node in use after it was in use
     was : (k p : ℕ) → u .owner k ≡ some p → t .owner k ≡ some p
@@ -189,8 +206,8 @@ transition-spares : {t : Tree} → Sound t → {n x p : ℕ} {o : Option Transit
 transition-spares {t} s {n} {x} {p} {o} {u} own law =
     over-spares s u own (λ q h p held up. (sym (law .holder q) ∙ held, sym (law .owner h) ∙ up))
     (λ p g used off.
-    fields-same (law .start p) (λ k e. law .owner k ∙ e) (λ k e. sym (law .owner k) ∙ e) (λ k e. law .below k)
-    (λ k y e. law .elsewhere k y (λ at. not-node s own off e (at .0))))
+    fields-same s (law .start p) (λ k e. law .owner k ∙ e) (λ k e. sym (law .owner k) ∙ e) (λ k e. law .below k)
+    (λ k y e. law .elsewhere k y (λ at. not-node s own off e (at .0))) (λ k e. law .hold k))
 
 -- start: a machine that is not over node n is not its machine
 start-spares : {t : Tree} → Sound t → {n m : ℕ} {u : Tree} {r q : Rows} → t .owner n ≡ some m → Started t n m u r q
@@ -198,8 +215,17 @@ start-spares : {t : Tree} → Sound t → {n m : ℕ} {u : Tree} {r q : Rows} �
 start-spares {t} s {n} {m} {u} own law =
     over-spares s u own (λ q h p held up. (sym (law .holder q) ∙ held, sym (law .owner h) ∙ up))
     (λ p g used off.
-    fields-same (law .start .elsewhere p (not-owner s own off)) (λ k e. law .owner k ∙ e) (λ k e. sym (law .owner k) ∙ e)
-    (λ k e. law .below k) (λ k x e. law .transition k x))
+    fields-same s (law .start .elsewhere p (not-owner s own off)) (λ k e. law .owner k ∙ e) (λ k e. sym (law .owner k) ∙ e)
+    (λ k e. law .below k) (λ k x e. law .transition k x) (λ k e. law .hold k))
+
+-- hold: a machine that is not over node n does not have it
+hold-spares : {t : Tree} → Sound t → {n b p : ℕ} {u : Tree} {r q : Rows} → t .owner n ≡ some p → HoldSet t n b u r q
+    → Spares t u (λ p. over t p n)
+hold-spares {t} s {n} {b} {p} {u} own law =
+    over-spares s u own (λ q h p held up. (sym (law .holder q) ∙ held, sym (law .owner h) ∙ up))
+    (λ p g used off.
+    fields-same s (law .start p) (λ k e. law .owner k ∙ e) (λ k e. sym (law .owner k) ∙ e) (λ k e. law .below k)
+    (λ k x e. law .transition k x) (λ k e. law .hold .elsewhere k (not-node s own off e)))
 
 -- crown: nothing holds the new machine, and every other is as it was
 crown-spares : {t : Tree} → Sound t → {m n : ℕ} {u : Tree} {r q : Rows} → TakenCrown t m n → Crowned t m n u r q → Spares t u (λ p. eqb p m)
@@ -208,9 +234,10 @@ crown-spares {t} s {m} {n} {u} taken law =
       up = λ q p on above. absurd (none-some (ap (u .holder) (eqb-true q m on) ∙ law .root-free) (parent-parts u q above .1));
       same = λ p f used off.
           let other : p ≡ m → ⊥ = eqb-false p m off in
-          fields-same (law .start .elsewhere p other) (λ k e. changed-kept (law .owner) (taken .node-new) k e)
+          fields-same s (law .start .elsewhere p other) (λ k e. changed-kept (law .owner) (taken .node-new) k e)
           (λ k e. changed-old (law .owner) k other e)
-          (λ k e. law .below .elsewhere k (λ same. none-some (ap (t .owner) same ∙ taken .node-new) e)) (λ k x e. law .transition k x);
+          (λ k e. law .below .elsewhere k (λ same. none-some (ap (t .owner) same ∙ taken .node-new) e)) (λ k x e. law .transition k x)
+          (λ k e. law .hold k);
     }
 
 -- ---- all edits
@@ -230,6 +257,7 @@ does-spares {t} s (Edit.arrow n x v c) ok r q law = transition-spares s (taken-a
 does-spares {t} s (Edit.clear n x) ok r q law = transition-spares s (taken-clear t n x ok .node-used .1) law
 does-spares {t} s (Edit.start n) ok r q law = start-spares s (law .1) (law .2)
 does-spares {t} s (Edit.crown m n) ok r q law = crown-spares s (taken-crown t m n ok) law
+does-spares {t} s (Edit.hold n b) ok r q law = hold-spares s (taken-hold t n b ok .node-used .1) law
 
 -- an edit that is taken leaves every machine that it does not touch as it was
 pub edit-spares : {t : Tree} → Sound t → (e : Edit) → refusal t (edit e) ≡ 0 → Spares t (edited t e) (touches t e)

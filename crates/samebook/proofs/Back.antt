@@ -9,21 +9,21 @@ use lib.ListN.{length}
 use Rattle.definitions.specs.Limits.{nodes, commands, levels}
 use Rattle.definitions.specs.Tree.{Tree, Sound}
 use Rattle.definitions.specs.Sheet.{Rows}
-use Rattle.definitions.specs.Stream.{Command, edit, begin, add, refine, arrow}
+use Rattle.definitions.specs.Stream.{Command, edit, begin, add, refine, arrow, hold}
 use Rattle.definitions.specs.Edit.{single, edited}
 use Rattle.definitions.specs.Load.{Outcome, after, load, RowsAfterAll}
 use Rattle.definitions.specs.Open.{openRows}
-use Rattle.definitions.specs.Write.{pair, writtenAdd, writtenRefine, writtenArrow, written}
+use Rattle.definitions.specs.Write.{pair, writtenAdd, writtenRefine, writtenArrow, writtenHold, written}
 use Rattle.definitions.proofs.Words.{start-range}
-use Rattle.definitions.proofs.Commands.{begin-taken, add-taken, refine-taken, arrow-taken}
-use Rattle.definitions.proofs.Spelling.{spells-begin, spells-add, spells-refine, spells-arrow, whole, TakenAs, load-step}
+use Rattle.definitions.proofs.Commands.{begin-taken, add-taken, refine-taken, arrow-taken, hold-taken}
+use Rattle.definitions.proofs.Spelling.{spells-begin, spells-add, spells-refine, spells-arrow, spells-hold, whole, TakenAs, load-step}
 use Rattle.samebook.proofs.Taken.{Takes, done, takes-one, takes-both, takes-load, takes-rows}
-use Rattle.samebook.proofs.Clock.{addAt, refineAt, arrowAt, afterBegin}
+use Rattle.samebook.proofs.Clock.{addAt, refineAt, arrowAt, holdAt, afterBegin}
 use Rattle.samebook.proofs.Grown.{grown, grown-begin, grown-end, add-none, add-may, add-done}
-use Rattle.samebook.proofs.Grown.{refine-none, refine-may, refine-done, arrow-none, arrow-may, arrow-done}
-use Rattle.samebook.proofs.Marks.{begin-opens, add-opens, refine-opens, arrow-opens}
+use Rattle.samebook.proofs.Grown.{refine-none, refine-may, refine-done, arrow-none, arrow-may, arrow-done, hold-none, hold-may, hold-done}
+use Rattle.samebook.proofs.Marks.{begin-opens, add-opens, refine-opens, arrow-opens, hold-opens}
 use Rattle.samebook.proofs.Written.{AddCase, no-add, one-add, add-case, RefineCase, no-refine, one-refine, refine-case}
-use Rattle.samebook.proofs.Written.{ArrowCase, no-arrow, one-arrow, arrow-case}
+use Rattle.samebook.proofs.Written.{ArrowCase, no-arrow, one-arrow, arrow-case, HoldCase, no-hold, one-hold, hold-case}
 use Rattle.samebook.proofs.Written.{body, written-parts, Piecewise, body-all}
 
 -- the bytes between two places of the stream lead from the tree before the one to the tree before the other
@@ -78,11 +78,23 @@ leads-arrow {t} s n x small known = go (arrow-case t n x)
               (arrow-opens (grown t (arrowAt n x)) n x (a .target) (a .cost)) (arrow-done s n x small known drawn),
         )
 
+leads-hold : {t : Tree} → Sound t → (n : ℕ) → n < nodes → Leads t (holdAt n) (writtenHold t n) (suc (holdAt n))
+leads-hold {t} s n small = go (hold-case s n)
+  where
+    go : HoldCase t n → Leads t (holdAt n) (writtenHold t n) (suc (holdAt n))
+    go (no-hold empty free) = leads-none t (holdAt n) empty (hold-none s n small free)
+    go (one-hold bytes one) =
+        rw bytes (
+          edit (hold n 1) ∷ [],
+          takes-one (record { spells = spells-hold n 1; taken = hold-taken (hold-may s n small one) })
+              (hold-opens (grown t (holdAt n)) n 1) (hold-done s n small one),
+        )
+
 -- so what follows begin leads from begin's one machine to the whole tree
 pub body-takes : {t : Tree} → Sound t → {f : ℕ} → t .start (t .root) ≡ some f
     → (cs : List Command) × Takes (single (t .root) f) (body t) cs t
 body-takes {t} s {f} first =
-    let (cs, way) = body-all pieces t (leads-add s) (leads-refine s) (leads-arrow s) in
+    let (cs, way) = body-all pieces t (leads-add s) (leads-refine s) (leads-arrow s) (leads-hold s) in
     (cs, rw (grown-begin s f first) (subst (Takes (grown t afterBegin) (body t) cs) (grown-end s) way))
   where
     pieces : Piecewise (Leads t)

@@ -1,5 +1,5 @@
 -- The place of each command in the stream that Write gives, as one number: 512 numbers for each level, 256 for its nodes and then 256
--- for its refined nodes, and after the eight levels 16 numbers for each node's transitions. Assumes nothing.
+-- for its refined nodes, after the eight levels 16 numbers for each node's transitions, and then one for each node's hold. Assumes nothing.
 use mathlib.Core.Path.{_≡_, refl, ap, _∙_}
 use mathlib.Core.Logic.{_⊎_, inl, inr, ⊎-elim}
 use mathlib.Core.Bool.{false, cond}
@@ -15,7 +15,8 @@ use Rattle.definitions.proofs.Path.{level-on}
 use Rattle.definitions.proofs.Words.{holder-range, below-range}
 use Rattle.samebook.proofs.Levels.{root-or-held, level-range}
 
--- the places of node n among the adds and among the refines of level l, and of node n and command x among the arrows
+-- the places of node n among the adds and among the refines of level l, of node n and command x among the arrows,
+-- and of node n among the holds
 abbrev pub addAt : ℕ → ℕ → ℕ
 addAt l n = l * 512 + n
 
@@ -25,15 +26,21 @@ refineAt l n = l * 512 + 256 + n
 abbrev pub arrowAt : ℕ → ℕ → ℕ
 arrowAt n x = 4608 + n * 16 + x
 
--- the places after begin, after the eight levels, and after all
+abbrev pub holdAt : ℕ → ℕ
+holdAt n = 8704 + n
+
+-- the places after begin, after the eight levels, after the arrows, and after all
 abbrev pub afterBegin : ℕ
 afterBegin = 512
 
 abbrev pub afterLevels : ℕ
 afterLevels = 4608
 
+abbrev pub afterArrows : ℕ
+afterArrows = 8704
+
 abbrev pub afterAll : ℕ
-afterAll = 8704
+afterAll = 8960
 
 -- the place of the add and of the refine of node n, whether they are in the stream or not
 unfoldable pub addPlace : Tree → ℕ → ℕ

@@ -12,14 +12,14 @@ use borrow.Author.Tests.{lt-ltb, le-ltb, eq-eqb, ne-eqb}
 use Rattle.definitions.specs.Basics.{put}
 use Rattle.definitions.specs.Limits.{nodes, commands, levels}
 use Rattle.definitions.specs.Tree.{Tree, Transition, withNodes, Sound, above, level}
-use Rattle.definitions.specs.Stream.{add, refine, arrow}
+use Rattle.definitions.specs.Stream.{add, refine, arrow, hold}
 use Rattle.definitions.specs.Edit.{single, withTransition, edited}
 use Rattle.definitions.proofs.Options.{bind-some, present, none-some, some-same, equal-or-not}
-use Rattle.definitions.proofs.Words.{same-tree, owner-range, start-range, target-range}
+use Rattle.definitions.proofs.Words.{same-tree, owner-range, start-range, target-range, unused-hold}
 use Rattle.definitions.proofs.Path.{root-holder}
-use Rattle.definitions.proofs.Commands.{TakenAdd, TakenRefine, TakenArrow}
+use Rattle.definitions.proofs.Commands.{TakenAdd, TakenRefine, TakenArrow, TakenHold}
 use Rattle.samebook.proofs.Levels.{level-refined, level-less}
-use Rattle.samebook.proofs.Clock.{addAt, refineAt, arrowAt, afterBegin, afterAll, addPlace, refinePlace, machinePlace, nodePlace}
+use Rattle.samebook.proofs.Clock.{addAt, refineAt, arrowAt, holdAt, afterBegin, afterAll, addPlace, refinePlace, machinePlace, nodePlace}
 use Rattle.samebook.proofs.Clock.{place-free, place-held, place-start, place-other, machine-early, node-early}
 use Rattle.samebook.proofs.Clock.{machine-late, node-late, refine-late, machine-all, node-all, refine-all, arrow-at-arrow}
 use Rattle.samebook.proofs.Clock.{node-at-add, machine-at-add, refine-at-add, node-at-refine, machine-at-refine, refine-at-refine}
@@ -108,28 +108,31 @@ grown t T =
       start = λ m. passed none T (machinePlace t m) (t .start m);
       holder = λ m. passed none T (machinePlace t m) (t .holder m);
       transition = λ n x. passed none T (arrowAt n x) (t .transition n x);
+      hold = λ n. passed 0 T (holdAt n) (t .hold n);
     }
 
--- no refinement and no machine comes at a place: the tree stays, but for the nodes and the transitions that come
+-- no refinement and no machine comes at a place: the tree stays, but for the nodes, the transitions and the holds that come
 grown-next : {t : Tree} → Sound t → (T : ℕ) → ((n b : ℕ) → t .below n ≡ some b → refinePlace t n ≡ T → ⊥)
     → ((m f : ℕ) → t .start m ≡ some f → machinePlace t m ≡ T → ⊥) → {owner : ℕ → Option ℕ} {transition : ℕ → ℕ → Option Transition}
-    → ((n : ℕ) → owner n ≡ grown t (suc T) .owner n) → ((n x : ℕ) → transition n x ≡ grown t (suc T) .transition n x)
-    → withNodes (grown t T) owner (grown t T .below) transition ≡ grown t (suc T)
+    → {hold : ℕ → ℕ} → ((n : ℕ) → owner n ≡ grown t (suc T) .owner n) → ((n x : ℕ) → transition n x ≡ grown t (suc T) .transition n x)
+    → ((n : ℕ) → hold n ≡ grown t (suc T) .hold n) → withNodes (grown t T) owner (grown t T .below) transition hold ≡ grown t (suc T)
 unfolding grown
-grown-next {t} s T refined machine owner transition =
+grown-next {t} s T refined machine owner transition holds =
     same-tree _ _ refl owner (λ n. passed-still none T (refinePlace t n) (t .below n) (given (refined n)))
     (λ m. passed-still none T (machinePlace t m) (t .start m) (given (machine m)))
     (λ m. passed-still none T (machinePlace t m) (t .holder m) (given λ h e. let (f, used) = s .held-used m h e in machine m f used))
-    transition
+    transition holds
 
 -- nothing comes at a place: the tree stays
 grown-still : {t : Tree} → Sound t → (T : ℕ) → ((n m : ℕ) → t .owner n ≡ some m → nodePlace t n ≡ T → ⊥)
     → ((n b : ℕ) → t .below n ≡ some b → refinePlace t n ≡ T → ⊥) → ((m f : ℕ) → t .start m ≡ some f → machinePlace t m ≡ T → ⊥)
-    → ((n x : ℕ) (a : Transition) → t .transition n x ≡ some a → arrowAt n x ≡ T → ⊥) → grown t T ≡ grown t (suc T)
+    → ((n x : ℕ) (a : Transition) → t .transition n x ≡ some a → arrowAt n x ≡ T → ⊥)
+    → ((n : ℕ) → (t .hold n ≡ 0) ⊎ (holdAt n ≡ T → ⊥)) → grown t T ≡ grown t (suc T)
 unfolding grown
-grown-still {t} s T node refined machine drawn =
+grown-still {t} s T node refined machine drawn held =
     grown-next s T refined machine (λ n. passed-still none T (nodePlace t n) (t .owner n) (given (node n)))
     (λ n x. passed-still none T (arrowAt n x) (t .transition n x) (given (drawn n x)))
+    (λ n. passed-still 0 T (holdAt n) (t .hold n) (held n))
 
 -- what is in use is in use in the whole tree, and what it stands below, it stands below there
 pub grown-above : (t : Tree) (T n h : ℕ) → above (grown t T) n ≡ some h → above t n ≡ some h
@@ -158,6 +161,7 @@ grown-begin {t} s f first =
     (passed-late none afterBegin (machinePlace t m) (t .holder m)
     (given λ h e. machine-late s (s .held-used m h e .1) (λ same. root-holder s same e))))
     (λ n x. sym (passed-late none afterBegin (arrowAt n x) (t .transition n x) (inr (omega arith))))
+    (λ n. sym (passed-late 0 afterBegin (holdAt n) (t .hold n) (inr (omega arith))))
 
 -- after the last place there is the whole tree
 pub grown-end : {t : Tree} → Sound t → grown t afterAll ≡ t
@@ -171,11 +175,14 @@ grown-end {t} s =
     (λ n x.
     passed-all none afterAll (arrowAt n x) (t .transition n x)
     (given λ a e. omega (arith, target-range t s n x a e, s .transition-range n x a e)))
+    (λ n.
+    passed-all 0 afterAll (holdAt n) (t .hold n)
+    (⊎-elim (λ unused. inl (unused-hold t s n unused)) (λ own. inr (omega (arith, s .node-range n (own .0) (own .1)))) (present (t .owner n))))
 
 -- ---- the adds
 
 module _ {t : Tree} (s : Sound t) (l i : ℕ) (high : l < levels) (small : i < nodes) where
-  -- at the place of node i among the adds of level l + 1 no refinement, machine or transition comes
+  -- at the place of node i among the adds of level l + 1 no refinement, machine, transition or hold comes
   refine-not : (n b : ℕ) → t .below n ≡ some b → refinePlace t n ≡ addAt (suc l) i → ⊥
   refine-not n b holds here = refine-at-add s l i small holds here
 
@@ -185,6 +192,9 @@ module _ {t : Tree} (s : Sound t) (l i : ℕ) (high : l < levels) (small : i < n
   arrow-not : (n x : ℕ) → arrowAt n x ≡ addAt (suc l) i → ⊥
   arrow-not n x here = omega arith
 
+  hold-not : (n : ℕ) → holdAt n ≡ addAt (suc l) i → ⊥
+  hold-not n here = omega arith
+
   -- node i is not added at this level: the tree stays
   pub add-none : ((m : ℕ) → t .owner i ≡ some m → (t .start m ≡ some i → ⊥) → level t i ≡ suc l → ⊥)
       → grown t (addAt (suc l) i) ≡ grown t (suc (addAt (suc l) i))
@@ -193,7 +203,7 @@ module _ {t : Tree} (s : Sound t) (l i : ℕ) (high : l < levels) (small : i < n
       (λ n m own here.
       let (other, same, at) = node-at-add s l i small own here in
       not-here m (rw same at own) (rw same at other) (rw same at at))
-      refine-not (λ m f used. machine-not m) (λ n x a e. arrow-not n x)
+      refine-not (λ m f used. machine-not m) (λ n x a e. arrow-not n x) (λ n. inr (hold-not n))
 
   module _ {m : ℕ} (own : t .owner i ≡ some m) (other : t .start m ≡ some i → ⊥) (at : level t i ≡ suc l) where
     -- the node's place
@@ -222,13 +232,17 @@ module _ {t : Tree} (s : Sound t) (l i : ℕ) (high : l < levels) (small : i < n
         (passed-put none (addAt (suc l) i) (nodePlace t) (t .owner) i (some m) own add-here
         (λ k. given λ a e here. node-at-add s l i small e here .1))
         (λ n x. passed-still none (addAt (suc l) i) (arrowAt n x) (t .transition n x) (inr (arrow-not n x)))
+        (λ n. passed-still 0 (addAt (suc l) i) (holdAt n) (t .hold n) (inr (hold-not n)))
 
 -- ---- the refines
 
 module _ {t : Tree} (s : Sound t) (l i : ℕ) (high : l < levels) (small : i < nodes) where
-  -- at the place of node i among the refines of level l + 1 no transition comes
+  -- at the place of node i among the refines of level l + 1 no transition and no hold comes
   no-arrow : (n x : ℕ) → arrowAt n x ≡ refineAt (suc l) i → ⊥
   no-arrow n x here = omega arith
+
+  no-hold : (n : ℕ) → holdAt n ≡ refineAt (suc l) i → ⊥
+  no-hold n here = omega arith
 
   -- node i is not refined at this level: the tree stays
   pub refine-none : ((b : ℕ) → t .below i ≡ some b → level t i ≡ suc l → ⊥)
@@ -244,7 +258,7 @@ module _ {t : Tree} (s : Sound t) (l i : ℕ) (high : l < levels) (small : i < n
       (λ m f used here.
       let (held, at) = machine-at-refine s l i small here in
       not-here m (s .held-below m i held) at)
-      (λ n x a e. no-arrow n x)
+      (λ n x a e. no-arrow n x) (λ n. inr (no-hold n))
 
   module _ {b f : ℕ} (holds : t .below i ≡ some b) (first : t .start b ≡ some f) (at : level t i ≡ suc l) where
     -- node i holds no other machine
@@ -298,11 +312,12 @@ module _ {t : Tree} (s : Sound t) (l i : ℕ) (high : l < levels) (small : i < n
         (passed-put none (refineAt (suc l) i) (machinePlace t) (t .holder) b (some i) (s .below-held i b holds) machine-here
         (λ k. inr (λ here. only-held (machine-at-refine s l i small here .0))))
         (λ n x. passed-still none (refineAt (suc l) i) (arrowAt n x) (t .transition n x) (inr (no-arrow n x)))
+        (λ n. passed-still 0 (refineAt (suc l) i) (holdAt n) (t .hold n) (inr (no-hold n)))
 
 -- ---- the arrows
 
 module _ {t : Tree} (s : Sound t) (n x : ℕ) (small : n < nodes) (known : x < commands) where
-  -- at the place of node n and command x among the arrows no node, refinement or machine comes
+  -- at the place of node n and command x among the arrows no node, refinement, machine or hold comes
   node-past : (k m : ℕ) → t .owner k ≡ some m → nodePlace t k ≡ arrowAt n x → ⊥
   node-past k m own here = omega (arith, node-all s own)
 
@@ -312,6 +327,9 @@ module _ {t : Tree} (s : Sound t) (n x : ℕ) (small : n < nodes) (known : x < c
   machine-past : (m f : ℕ) → t .start m ≡ some f → machinePlace t m ≡ arrowAt n x → ⊥
   machine-past m f used here = omega (arith, machine-all s used)
 
+  hold-past : (k : ℕ) → holdAt k ≡ arrowAt n x → ⊥
+  hold-past k here = omega arith
+
   -- the node has no transition for the command: the tree stays
   pub arrow-none : t .transition n x ≡ none → grown t (arrowAt n x) ≡ grown t (suc (arrowAt n x))
   arrow-none free =
@@ -319,6 +337,7 @@ module _ {t : Tree} (s : Sound t) (n x : ℕ) (small : n < nodes) (known : x < c
       (λ k y a e here.
       let (node, command) = arrow-at-arrow n x k y known (s .transition-range k y a e .0) here in
       none-some free (rw (node, command) at e))
+      (λ k. inr (hold-past k))
 
   module _ {a : Transition} (drawn : t .transition n x ≡ some a) where
     -- it is taken
@@ -360,3 +379,55 @@ module _ {t : Tree} (s : Sound t) (n x : ℕ) (small : n < nodes) (known : x < c
     arrow-done =
         grown-next s (arrowAt n x) refine-past machine-past
         (λ k. passed-still none (arrowAt n x) (nodePlace t k) (t .owner k) (given (node-past k))) arrow-put
+        (λ k. passed-still 0 (arrowAt n x) (holdAt k) (t .hold k) (inr (hold-past k)))
+
+-- ---- the holds
+
+module _ {t : Tree} (s : Sound t) (n : ℕ) (small : n < nodes) where
+  -- at the place of node n among the holds no node, refinement, machine or transition comes
+  node-gone : (k m : ℕ) → t .owner k ≡ some m → nodePlace t k ≡ holdAt n → ⊥
+  node-gone k m own here = omega (arith, node-all s own)
+
+  refine-gone : (k b : ℕ) → t .below k ≡ some b → refinePlace t k ≡ holdAt n → ⊥
+  refine-gone k b holds here = omega (arith, refine-all s holds)
+
+  machine-gone : (m f : ℕ) → t .start m ≡ some f → machinePlace t m ≡ holdAt n → ⊥
+  machine-gone m f used here = omega (arith, machine-all s used)
+
+  arrow-gone : (k x : ℕ) (a : Transition) → t .transition k x ≡ some a → arrowAt k x ≡ holdAt n → ⊥
+  arrow-gone k x a e here = omega (arith, target-range t s k x a e, s .transition-range k x a e)
+
+  -- the node is not held: the tree stays
+  pub hold-none : t .hold n ≡ 0 → grown t (holdAt n) ≡ grown t (suc (holdAt n))
+  hold-none free =
+      grown-still s (holdAt n) node-gone refine-gone machine-gone arrow-gone
+      (λ k. ⊎-elim (λ same. inl (ap (t .hold) same ∙ free)) (λ other. inr (λ here. other (omega arith))) (equal-or-not k n))
+
+  module _ (one : t .hold n ≡ 1) where
+    -- it is taken
+    pub hold-may : TakenHold (grown t (holdAt n)) n 1
+    unfolding grown
+    hold-may =
+        let (m, own) = s .hold-used n one in
+        record {
+          node-range = small;
+          hold-range = omega arith;
+          node-used = (m, passed-in none (holdAt n) (nodePlace t n) (t .owner n) (omega (arith, node-all s own)) ∙ own);
+          no-start = λ e p up first.
+              let start : t .start p ≡ some n = passed-is none (holdAt n) (machinePlace t p) (t .start p) (λ e. none-some e refl) first in
+              omega (arith, s .hold-start p n start);
+        }
+
+    -- and what it leaves
+    pub hold-done : edited (grown t (holdAt n)) (hold n 1) ≡ grown t (suc (holdAt n))
+    unfolding grown edited
+    hold-done =
+        grown-next s (holdAt n) refine-gone machine-gone
+        (λ k. passed-still none (holdAt n) (nodePlace t k) (t .owner k) (given (node-gone k)))
+        (λ k x. passed-still none (holdAt n) (arrowAt k x) (t .transition k x) (given (arrow-gone k x)))
+        (passed-put 0 (holdAt n) holdAt (t .hold) n 1 one refl (λ k. inr (λ here. omega arith)))
+
+-- a hold has not come before its place
+pub hold-late : (t : Tree) (n : ℕ) → grown t (holdAt n) .hold n ≡ 0
+unfolding grown
+hold-late t n = passed-out 0 (holdAt n) (holdAt n) (t .hold n) (omega arith)

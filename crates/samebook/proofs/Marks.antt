@@ -9,7 +9,7 @@ use borrow.Author.Tests.{eq-eqb}
 use Rattle.definitions.specs.Basics.{option, unless, isSome}
 use Rattle.definitions.specs.Tree.{Tree, usedMachine, over}
 use Rattle.definitions.specs.Sheet.{Rows}
-use Rattle.definitions.specs.Stream.{Edit, begin, add, refine, arrow}
+use Rattle.definitions.specs.Stream.{Edit, begin, add, refine, arrow, hold}
 use Rattle.definitions.specs.Edit.{single, withTransition, edited, touches, withStale, editedRows}
 use Rattle.definitions.specs.Open.{openRows}
 use Rattle.definitions.proofs.Words.{same-rows}
@@ -71,3 +71,8 @@ refine-opens t n m s = stays-open t (refine n m s) (λ p used. brought (eqb p m)
 pub arrow-opens : (t : Tree) (n x v c : ℕ) → StaysOpen t (arrow n x v c)
 unfolding edited withTransition
 arrow-opens t n x v c = stays-open t (arrow n x v c) (λ p used. rw used (or-true (touches t (arrow n x v c) p)))
+
+-- hold
+pub hold-opens : (t : Tree) (n b : ℕ) → StaysOpen t (hold n b)
+unfolding edited
+hold-opens t n b = stays-open t (hold n b) (λ p used. rw used (or-true (touches t (hold n b) p)))

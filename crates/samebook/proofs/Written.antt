@@ -11,10 +11,11 @@ use lib.Dec.{eqb}
 use borrow.Author.Tests.{eqb-true, eqb-false}
 use Rattle.definitions.specs.Basics.{isAt, joined}
 use Rattle.definitions.specs.Limits.{nodes, commands, levels}
-use Rattle.definitions.specs.Tree.{Tree, Transition, Sound, level}
-use Rattle.definitions.specs.Write.{pair, writtenBegin, writtenAdd, writtenRefine, writtenArrow, written}
+use Rattle.definitions.specs.Tree.{Tree, Transition, Sound, onHold, level}
+use Rattle.definitions.specs.Write.{pair, writtenBegin, writtenAdd, writtenRefine, writtenArrow, writtenHold, written}
 use Rattle.definitions.proofs.Options.{none-some, some-same, true-false, isAt-true, isAt-some}
-use Rattle.samebook.proofs.Clock.{addAt, refineAt, arrowAt, afterBegin, afterLevels, afterAll}
+use Rattle.definitions.proofs.Words.{hold-zero}
+use Rattle.samebook.proofs.Clock.{addAt, refineAt, arrowAt, holdAt, afterBegin, afterLevels, afterArrows, afterAll}
 
 -- ---- what stands at a place
 
@@ -74,13 +75,26 @@ arrow-case t n x = drawn (t .transition n x) refl
     drawn none e = no-arrow (rw e) e
     drawn (some a) e = one-arrow {a = a} (rw e) e
 
+-- a hold: of a node that is held
+pub data HoldCase (t : Tree) (n : ℕ) : Type 0 where
+  no-hold : writtenHold t n ≡ [] → t .hold n ≡ 0 → HoldCase t n
+  one-hold : writtenHold t n ≡ 0x1A ∷ (pair n ++ 1 ∷ []) → t .hold n ≡ 1 → HoldCase t n
+
+pub hold-case : {t : Tree} → Sound t → (n : ℕ) → HoldCase t n
+unfolding writtenHold
+hold-case {t} s n = tested (onHold t n) refl
+  where
+    tested : (b : Bool) → onHold t n ≡ b → HoldCase t n
+    tested true e = one-hold (rw e) (eqb-true (t .hold n) 1 e)
+    tested false e = no-hold (rw e) (hold-zero t s n e)
+
 -- ---- from the pieces to the whole
 
 -- what follows begin
 unfoldable pub body : Tree → List ℕ
 body t =
     joined levels (λ l. joined nodes (writtenAdd t (suc l)) ++ joined nodes (writtenRefine t (suc l)))
-    ++ joined nodes (λ n. joined commands (writtenArrow t n))
+    ++ (joined nodes (λ n. joined commands (writtenArrow t n)) ++ joined nodes (writtenHold t))
 
 -- the stream is begin and the body
 pub written-parts : (t : Tree) {f : ℕ} → t .start (t .root) ≡ some f → written t ≡ 0x10 ∷ t .root ∷ (pair f ++ body t)
@@ -112,12 +126,13 @@ module _ {R : ℕ → List ℕ → ℕ → Type 0} (r : Piecewise R) where
       → ((l i : ℕ) → l < levels → i < nodes → R (addAt (suc l) i) (writtenAdd t (suc l) i) (suc (addAt (suc l) i)))
       → ((l i : ℕ) → l < levels → i < nodes → R (refineAt (suc l) i) (writtenRefine t (suc l) i) (suc (refineAt (suc l) i)))
       → ((n x : ℕ) → n < nodes → x < commands → R (arrowAt n x) (writtenArrow t n x) (suc (arrowAt n x)))
+      → ((n : ℕ) → n < nodes → R (holdAt n) (writtenHold t n) (suc (holdAt n)))
       → R afterBegin (body t) afterAll
   unfolding body
-  body-all t adds refines arrows =
+  body-all t adds refines arrows holds =
       r .both afterBegin afterLevels afterAll
       (joined levels (λ l. joined nodes (writtenAdd t (suc l)) ++ joined nodes (writtenRefine t (suc l))))
-      (joined nodes (λ n. joined commands (writtenArrow t n)))
+      (joined nodes (λ n. joined commands (writtenArrow t n)) ++ joined nodes (writtenHold t))
       (joined-all levels (λ l. joined nodes (writtenAdd t (suc l)) ++ joined nodes (writtenRefine t (suc l))) (λ l. suc l * 512)
       (λ l high.
       r .both (suc l * 512) (suc l * 512 + 256) (suc (suc l) * 512) (joined nodes (writtenAdd t (suc l)))
@@ -125,7 +140,9 @@ module _ {R : ℕ → List ℕ → ℕ → Type 0} (r : Piecewise R) where
       (joined-ones nodes (suc l * 512) (writtenAdd t (suc l)) (λ i small. adds l i high small))
       (subst (R (suc l * 512 + 256) (joined nodes (writtenRefine t (suc l)))) (omega arith)
       (joined-ones nodes (suc l * 512 + 256) (writtenRefine t (suc l)) (λ i small. refines l i high small)))))
+      (r .both afterLevels afterArrows afterAll (joined nodes (λ n. joined commands (writtenArrow t n))) (joined nodes (writtenHold t))
       (joined-all nodes (λ n. joined commands (writtenArrow t n)) (λ n. 4608 + n * 16)
       (λ n small.
       subst (R (4608 + n * 16) (joined commands (writtenArrow t n))) (omega arith)
       (joined-ones commands (4608 + n * 16) (writtenArrow t n) (λ x known. arrows n x small known))))
+      (joined-ones nodes afterArrows (writtenHold t) holds))

@@ -41,14 +41,14 @@ module _ (ws : List ℕ) (w : WellFormed ws) {s x n left a : ℕ} (to : ClimbedT
   climbed-found there = to .same ∙ ap (past left) (climb-own (treeOf ws) (treeOf ws .root) n x _ (some-counting (w .sound) n x says there))
 
   module _ (free : a ≡ blank) {o h : ℕ} (owner : o ≡ word (treeOf ws .owner n)) (holder : h ≡ word (treeOf ws .holder o)) where
-    -- no transition, and no node holds the owner
+    -- no transition that counts, and no node holds the owner
     pub climbed-ends : h ≡ absent → climb (treeOf ws) (treeOf ws .root) s x ≡ passed (left + 0)
     climbed-ends none-holds =
         to .same
         ∙ ap (past left)
         (climb-ends (w .sound) x (own ws w n (to .used) owner) (no-counting (w .sound) n x says free) (top ws w n (to .used) owner holder none-holds))
 
-    -- no transition, and node h holds the owner
+    -- no transition that counts, and node h holds the owner
     pub climbed-on : (h ≡ absent → ⊥) → ClimbedTo (treeOf ws) s x h (left + leaving (treeOf ws) o)
     climbed-on there =
         record {

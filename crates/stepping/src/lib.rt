@@ -21,7 +21,7 @@ pub enum StepAnswer {
     Refused(u32),
 }
 
-// The lowest node, s itself first and then the nodes that hold it, that has a transition for x.
+// The lowest node, s itself first and then the nodes that hold it, that has a transition for x which counts.
 fn climb(book: &[u32], s: u32, x: u32) -> Climbed
     requires { ⌜ WellFormed (now book) × UsedNode (treeOf (now book)) s × (x < commands) ⌝ }
     ensures { λ r. ⌜ climbOf r ≡ climb (treeOf (now (book .entry))) (treeOf (now (book .entry)) .root) s x ⌝ }

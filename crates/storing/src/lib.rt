@@ -1,6 +1,6 @@
 // Bytes stored one after the other in a lent list. A store goes as far as the list does and gives the next place, so that what is too long
 // is measured and not written.
-ghost use mathlib.Core.List.{[], _∷_};
+ghost use mathlib.Core.List.{[], _∷_, _++_};
 ghost use Prim.Native.Nat.{_+_, _<_, _^_};
 ghost use Rattle.definitions.specs.Limits.{nodes, commands};
 ghost use Rattle.definitions.specs.Write.{pair, arrowBytes};
@@ -25,6 +25,16 @@ pub fn put_pair(out: &mut [u8], at: usize, n: u32) -> usize
 {
     let low = put_byte(out, at, n / 256);
     put_byte(out, low, n % 256)
+}
+
+// The same for an opcode, a node and a byte.
+pub fn put_node_byte(out: &mut [u8], at: usize, op: u32, n: u32, b: u32) -> usize
+    requires { ⌜ (at + 4 < 2 ^ 64) × (op < 256) × (n < 65536) × (b < 256) ⌝ }
+    ensures { λ r. ⌜ Stored (now (out .entry)) at (op ∷ (pair n ++ b ∷ [])) r (now (out .exit)) ⌝ }
+{
+    let node = put_byte(out, at, op);
+    let last = put_pair(out, node, n);
+    put_byte(out, last, b)
 }
 
 // The same for arrow: opcode, node, command, target, cost.

@@ -37,7 +37,7 @@ module _ {t : Tree} (s : Sound t) (r : Rows) (m x c : ℕ) {u : ℕ} (last : u �
       let same : e .node ≡ u = sym (said-is (r .last m x) last (e .last)) in
       wrong (said-is (t .owner u) eo (subst (λ (n : ℕ). t .owner n ≡ some m) same (e .owned)))
 
-  -- with no transition for the command
+  -- with no transition that counts for the command
   pub ended-moves : {w : ℕ} → w ≡ transitionWord (counting t u x) → (w ≡ blank → ⊥) → Ended t r m x c → ⊥
   ended-moves ew moves e =
       let same : e .node ≡ u = sym (said-is (r .last m x) last (e .last)) in

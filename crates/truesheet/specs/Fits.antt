@@ -63,8 +63,8 @@ pub record StartRowFits (r : Rows) (n : ℕ) : Type 0 where
   pub before : r .before n ≡ none
   pub by : r .by n ≡ none
 
--- node n of machine m, reached at cost c, is left by x at no less than what stands at the transition's target, or in m's row where x
--- has no transition
+-- node n of machine m, reached at cost c, is left by x at no less than what stands at the transition's target, or in m's row where no
+-- transition counts for x
 pub record RelaxedBy (t : Tree) (r : Rows) (m n c x : ℕ) : Type 0 where
   pub moves : (b : Arrival) → move t r n x ≡ some b → AtMost (r .cost (b .node)) (c + b .cost)
   pub exits : (e : ℕ) → counting t n x ≡ none → nodeExit t r n x ≡ some e → AtMost (r .exit m x) (c + e)

@@ -4,7 +4,8 @@ ghost use mathlib.Core.Path.{_≡_};
 ghost use Prim.Native.Nat.{_≤_, _<_};
 ghost use lib.ListN.{length, getD};
 ghost use Rattle.definitions.specs.Limits.{machines, nodes, commands, sheetLength, longestChain};
-ghost use Rattle.definitions.specs.Book.{treeOf, WellFormed};
+ghost use Rattle.definitions.specs.Step.{counting};
+ghost use Rattle.definitions.specs.Book.{transitionWord, treeOf, WellFormed};
 ghost use Rattle.definitions.specs.Sheet.{costOf, rowsOf};
 ghost use Rattle.definitions.specs.Truth.{BlankMachine, BlankNode, Named, Ended, TrueSheet};
 ghost use Rattle.book.specs.Decides.{Decides};
@@ -216,13 +217,13 @@ fn named(book: &[u32], sheet: &[u32], m: u32, n: u32, c: u32) -> bool
     adds_up(book, sheet, u, x, w % 65536, c)
 }
 
-// Whether leaving node n of machine m, reached at cost c, by command x costs no less than what stands where it leads. Whether n has a
-// transition cannot be foreseen: both words are read, so that no jump is needed.
-fn relaxed_by(book: &[u32], sheet: &[u32], m: u32, n: u32, c: u32, x: u32) -> bool
-    requires { ⌜ Readable (now book) (now sheet) × (m < machines) × (n < nodes) × (x < commands) ⌝ }
+// Whether leaving node n of machine m, reached at cost c, by command x costs no less than what stands where it leads; w is the word of the
+// transition that counts. Whether there is one cannot be foreseen: both words are read, so that no jump is needed.
+fn relaxed_word(book: &[u32], sheet: &[u32], m: u32, n: u32, c: u32, x: u32, w: u32) -> bool
+    requires { ⌜ Readable (now book) (now sheet) × (m < machines) × (n < nodes) × (x < commands)
+        × (w ≡ transitionWord (counting (treeOf (now book)) n x)) ⌝ }
     ensures { λ r. ⌜ Decides r (RelaxedBy (treeOf (now (book .entry))) (rowsOf (now (sheet .entry))) m n c x) ⌝ }
 {
-    let w = book::counting(book, n, x);
     let cost = sheet::cost(sheet, w / 65536 % book::NODES);
     let mut least = sheet::exit(sheet, m, x);
     let mut price = 0;
@@ -234,6 +235,18 @@ fn relaxed_by(book: &[u32], sheet: &[u32], m: u32, n: u32, c: u32, x: u32) -> bo
         return true;
     };
     at_most(least, wide(c) + e + wide(price))
+}
+
+// The same without the word. Most transitions are not shut: with a call for each case the word of such a one is tested as it stands.
+fn relaxed_by(book: &[u32], sheet: &[u32], m: u32, n: u32, c: u32, x: u32) -> bool
+    requires { ⌜ Readable (now book) (now sheet) × (m < machines) × (n < nodes) × (x < commands) ⌝ }
+    ensures { λ r. ⌜ Decides r (RelaxedBy (treeOf (now (book .entry))) (rowsOf (now (sheet .entry))) m n c x) ⌝ }
+{
+    let w = book::transition(book, n, x);
+    if book::shut(book, w) {
+        return relaxed_word(book, sheet, m, n, c, x, book::BLANK);
+    }
+    relaxed_word(book, sheet, m, n, c, x, w)
 }
 
 // Whether that is so by every command.

@@ -1,5 +1,6 @@
 -- What the tests of this crate's functions decide, from the words that they look at. Assumes nothing.
 use mathlib.Core.Path.{_≡_, sym, ap, _∙_}
+use mathlib.Core.Logic.{inr, ⊎-elim}
 use mathlib.Core.Bool.{Bool, not}
 use mathlib.Core.Option.{some}
 use Prim.Native.Nat.{ℕ, _/_, _<_}
@@ -8,10 +9,11 @@ use lib.Dec.{eqb}
 use Rattle.definitions.specs.Limits.{machines, nodes, levels, costs, absent, blank}
 use Rattle.definitions.specs.Tree.{Tree, UsedNode, UsedMachine}
 use Rattle.definitions.specs.Book.{word, transitionWord}
+use Rattle.definitions.proofs.Options.{some-same}
 use Rattle.definitions.proofs.Words.{present-word}
 use Rattle.book.specs.Decides.{Decides}
 use Rattle.wellformed.specs.Fits.{Climbs, RootFits, StartFits, HolderFits}
-use Rattle.wellformed.specs.Fits.{OwnerFits, BelowFits, TransitionFits}
+use Rattle.wellformed.specs.Fits.{OwnerFits, BelowFits, HoldFits, TransitionFits}
 use Rattle.book.proofs.Decide.{decides-same, decides-if, decides-equal, decides-other}
 use Rattle.wellformed.proofs.Fits.{Read}
 use Rattle.book.proofs.Said.{said-is, unsaid-is, unsaid, said-all, unsaid-all}
@@ -49,6 +51,26 @@ module _ {t : Tree} (read : Read t) where
     where
       own : t .owner s ≡ some m
       own = present-word (t .owner s) (sym right ∙ eo) (λ z. omega arith)
+
+  -- the hold of a node: neither 0 nor 1, of a node that is not in use, and of one that is
+  pub hold-other : (n : ℕ) {h : ℕ} → h ≡ t .hold n → (h ≡ 0 → ⊥) → (h ≡ 1 → ⊥) → HoldFits t n → ⊥
+  hold-other n eh other wrong fits = ⊎-elim (λ free. other (eh ∙ free)) (λ rest. wrong (eh ∙ rest .0)) fits
+
+  pub hold-unused : (n : ℕ) {h o : ℕ} → h ≡ t .hold n → (h ≡ 0 → ⊥) → o ≡ word (t .owner n) → o ≡ absent → HoldFits t n → ⊥
+  hold-unused n eh other eo z fits =
+      ⊎-elim (λ free. other (eh ∙ free)) (λ rest. let (m, own, inner) = rest .1 in unsaid-all (read .owner n) eo z m own) fits
+
+  pub hold-decides : (n : ℕ) {h m f : ℕ} → n < nodes → h ≡ t .hold n → h ≡ 1 → m ≡ word (t .owner n) → (m ≡ absent → ⊥)
+      → f ≡ word (t .start m) → Decides (not (eqb f n)) (HoldFits t n)
+  hold-decides n {h} {m} {f} small eh one em used ef =
+      let own : t .owner n ≡ some m = present-word (t .owner n) em used in
+      decides-other f n (λ inner. inr (sym eh ∙ one, (m, own, λ first. inner (said-is (t .start m) ef first))))
+      (λ fits same.
+      ⊎-elim (λ free. omega (arith, eh))
+      (λ rest.
+      let (p, own-p, inner) = rest .1 in
+      let first : t .start m ≡ some n = present-word (t .start m) (sym same ∙ ef) (λ z. omega arith) in
+      inner (ap (t .start) (some-same own-p own) ∙ first)) fits)
 
   -- the node that holds a machine
   pub holder-other : (m : ℕ) {h b : ℕ} → h ≡ word (t .holder m) → (h ≡ absent → ⊥) → b ≡ word (t .below h) → (b ≡ m → ⊥)

@@ -1,13 +1,15 @@
 -- A tree that is read out of words is sound exactly where its root fits and every machine and every node fits. Assumes nothing.
-use mathlib.Core.Path.{_≡_}
-use mathlib.Core.Logic.{_↔_}
+use mathlib.Core.Path.{_≡_, _∙_, ap}
+use mathlib.Core.Logic.{_↔_, _⊎_, inl, inr, ⊎-elim}
 use mathlib.Core.Option.{some}
-use Prim.Native.Nat.{ℕ, _<_}
+use Prim.Native.Nat.{ℕ, _≤_, _<_}
+use native.Mathlib.Omega.{arith}
 use Rattle.definitions.specs.Limits.{machines, nodes, commands, costs, blank}
 use Rattle.definitions.specs.Tree.{Tree, Transition, Sound}
 use Rattle.definitions.specs.Book.{transitionWord}
+use Rattle.definitions.proofs.Options.{some-same, equal-or-not, less-or-not}
 use Rattle.book.proofs.Said.{Within}
-use Rattle.wellformed.specs.Fits.{RootFits, MachinesFit, NodesFit}
+use Rattle.wellformed.specs.Fits.{RootFits, MachinesFit, HoldFits, NodesFit}
 
 -- a tree that is read out of words speaks so of machines, nodes and commands, and its costs are in range
 pub record Read (t : Tree) : Type 0 where
@@ -17,10 +19,28 @@ pub record Read (t : Tree) : Type 0 where
   pub holder : (m : ℕ) → Within machines m (t .holder m)
   pub transition : (n x : ℕ) (a : Transition) → t .transition n x ≡ some a
       → (n < nodes) × (x < commands) × (a .cost < costs) × (transitionWord (some a) ≡ blank → ⊥)
+  pub hold : (n : ℕ) → nodes ≤ n → t .hold n ≡ 0
 
 -- the root, every machine and every node fit
 abbrev pub AllFit : Tree → Type 0
 AllFit t = RootFits t × MachinesFit t × NodesFit t
+
+-- a hold of a sound tree fits
+hold-fits : {t : Tree} → Sound t → (n : ℕ) → HoldFits t n
+hold-fits {t} s n =
+    ⊎-elim
+    (λ one.
+    let (m, own) = s .hold-used n one in
+    inr (one, (m, own, λ first. omega (arith, s .hold-start m n first))))
+    (λ other. inl (omega (arith, s .hold-range n))) (equal-or-not (t .hold n) 1)
+
+-- a hold that fits is 0 or 1
+hold-small : (h : ℕ) {P : Type 0} → (h ≡ 0) ⊎ ((h ≡ 1) × P) → h < 2
+hold-small h fit = ⊎-elim (λ zero-hold. omega arith) (λ one. omega (arith, one .0)) fit
+
+-- and where it is 1 the rest is so
+hold-one : (h : ℕ) {P : Type 0} → (h ≡ 0) ⊎ ((h ≡ 1) × P) → h ≡ 1 → P
+hold-one h fit one = ⊎-elim (λ zero-hold. absurd (omega arith)) (λ rest. rest .1) fit
 
 -- a sound tree fits
 fits : {t : Tree} → Sound t → AllFit t
@@ -32,7 +52,7 @@ fits {t} s = (
         holder = λ n e. (s .held-below m n e, s .holder-used m n e, s .held-used m n e);
       },
   λ n h.
-      record { owner = s .owner-used n; below = s .below-held n; transitions = λ x l. s .transition-owned n x },
+      record { owner = s .owner-used n; below = s .below-held n; hold = hold-fits s n; transitions = λ x l. s .transition-owned n x },
 )
 
 -- a tree that is read out of words and fits is sound
@@ -54,8 +74,18 @@ sound {t} l (root, machine, node) =
           λ n x a e.
           let r = l .transition n x a e in
           node n (r .0) .transitions x (r .1) a e;
+      hold-range = λ n. hold-small (t .hold n) (hold n);
+      hold-used = λ n one. let (m, own, other) = hold-one (t .hold n) (hold n) one in (m, own);
+      hold-start = λ m s e.
+          ⊎-elim (λ free. free)
+          (λ rest.
+          let (p, own, other) = rest .1 in
+          absurd (other (ap (t .start) (some-same own (machine m (l .start m s e .0) .start s e .0)) ∙ e))) (hold s);
       climbs = λ m s e. machine m (l .start m s e .0) .start s e .1;
     }
+  where
+    hold : (n : ℕ) → HoldFits t n
+    hold n = ⊎-elim (λ small. node n small .hold) (λ past. inl (l .hold n past)) (less-or-not n nodes)
 
 -- so the two are one
 pub sound-fits : {t : Tree} → Read t → Sound t ↔ AllFit t

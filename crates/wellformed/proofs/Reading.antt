@@ -5,6 +5,7 @@ use mathlib.Core.List.{List}
 use Prim.Native.Nat.{ℕ, _+_, _*_, _/_, _%_, _≤_, _<_}
 use native.Mathlib.Omega.{arith}
 use Rattle.definitions.specs.Basics.{_>>=_}
+use borrow.Author.Tests.{le-ltb}
 use Rattle.definitions.specs.Limits.{machines, nodes, commands, costs, blank}
 use Rattle.definitions.specs.Tree.{Tree, Transition, parent}
 use Rattle.definitions.specs.Book.{word, transitionWord, transitionOf, under, machineWord, nodeWord, treeOf}
@@ -37,6 +38,7 @@ treeOf-read ws =
           let (hx, g) = under-some commands x (transitionOf (nodeWord ws n (2 + x))) f in
           let (cost, other) = transition-read (nodeWord ws n (2 + x)) a g in
           (hn, hx, cost, other);
+      hold = λ n past. rw (le-ltb n nodes past);
     }
 
 -- ---- the machine just above a machine

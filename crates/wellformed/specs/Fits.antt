@@ -1,6 +1,7 @@
 -- What the inner functions of this crate decide: the conditions of a sound tree, sorted by what they are about: the root, one machine,
 -- one node. A node that is not in use and holds a machine is caught at that machine. The public contract names none of these.
 use mathlib.Core.Path.{_≡_}
+use mathlib.Core.Logic.{_⊎_}
 use mathlib.Core.Option.{none, some}
 use Prim.Native.Nat.{ℕ, _<_}
 use Rattle.definitions.specs.Basics.{iterate}
@@ -37,6 +38,10 @@ OwnerFits t n = (m : ℕ) → t .owner n ≡ some m → UsedMachine t m
 abbrev pub BelowFits : Tree → ℕ → Type 0
 BelowFits t n = (m : ℕ) → t .below n ≡ some m → t .holder m ≡ some n
 
+-- the hold of node n is 0, or 1 where n is in use and not the start of its machine
+abbrev pub HoldFits : Tree → ℕ → Type 0
+HoldFits t n = (t .hold n ≡ 0) ⊎ ((t .hold n ≡ 1) × ((m : ℕ) × (t .owner n ≡ some m) × (t .start m ≡ some n → ⊥)))
+
 -- the transition of node n for x, where there is one, leads to a node of the machine that n belongs to
 abbrev pub TransitionFits : Tree → ℕ → ℕ → Type 0
 TransitionFits t n x =
@@ -50,6 +55,7 @@ TransitionsFit t n = (x : ℕ) → x < commands → TransitionFits t n x
 pub record NodeFits (t : Tree) (n : ℕ) : Type 0 where
   pub owner : OwnerFits t n
   pub below : BelowFits t n
+  pub hold : HoldFits t n
   pub transitions : TransitionsFit t n
 
 -- every machine, every node fits

@@ -1,5 +1,5 @@
-// Whether a book is well formed (document 01, "Book and sheet in memory"; refusal 2). The words of a book may say anything here, so
-// a number is looked at before it is an index.
+// Whether a book is well formed (document 01, "Book and sheet in memory"; document 02, W-205; refusal 2). The words of a book may say anything
+// here, so a number is looked at before it is an index.
 ghost use mathlib.Core.Path.{_≡_};
 ghost use Prim.Native.Nat.{_<_};
 ghost use lib.ListN.{length};
@@ -8,7 +8,7 @@ ghost use Rattle.definitions.specs.Tree.{parent};
 ghost use Rattle.definitions.specs.Book.{word, treeOf, WellFormed};
 ghost use Rattle.book.specs.Decides.{Decides};
 ghost use Rattle.wellformed.specs.Fits.{Climbs, RootFits, StartFits, HolderFits, MachineFits, MachinesFit};
-ghost use Rattle.wellformed.specs.Fits.{OwnerFits, BelowFits, TransitionFits, TransitionsFit, NodeFits, NodesFit};
+ghost use Rattle.wellformed.specs.Fits.{OwnerFits, BelowFits, HoldFits, TransitionFits, TransitionsFit, NodeFits, NodesFit};
 
 // The most steps from a machine to the root: one less than there are levels.
 const STEPS: u32 = 7;
@@ -183,6 +183,25 @@ fn below_fits(book: &[u32], n: u32) -> bool
     holder_of(book, b) == n
 }
 
+// Whether the hold of node n is 0, or 1 where n is in use and not the start of its machine.
+fn hold_fits(book: &[u32], n: u32) -> bool
+    requires { ⌜ (length (now book) ≡ bookLength) × (n < nodes) ⌝ }
+    ensures { λ r. ⌜ Decides r (HoldFits (treeOf (now (book .entry))) n) ⌝ }
+{
+    let h = book::hold(book, n);
+    if h == 0 {
+        return true;
+    }
+    if h != 1 {
+        return false;
+    }
+    let m = book::owner(book, n);
+    if m == book::ABSENT {
+        return false;
+    }
+    start_of(book, m) != n
+}
+
 // Whether the transition of node n for command x, where there is one, stays in n's machine, whose word is m. Whether there is
 // one cannot be foreseen: none is taken as one to n itself, so that no jump is needed.
 fn transition_fits(book: &[u32], n: u32, m: u32, x: u32) -> bool
@@ -220,6 +239,9 @@ fn node_fits(book: &[u32], n: u32) -> bool
         return false;
     }
     if !below_fits(book, n) {
+        return false;
+    }
+    if !hold_fits(book, n) {
         return false;
     }
     transitions_fit(book, n)

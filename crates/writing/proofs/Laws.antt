@@ -15,10 +15,10 @@ use lib.Seq.{getD-set-same, getD-set-other}
 use borrow.Author.Tests.{eq-eqb, ne-eqb}
 use Rattle.definitions.specs.Basics.{option, joined}
 use Rattle.definitions.specs.Limits.{machines, nodes, commands, levels}
-use Rattle.definitions.specs.Tree.{Tree, Transition, UsedNode, Sound, level}
+use Rattle.definitions.specs.Tree.{Tree, Transition, UsedNode, Sound, onHold, level}
 use Rattle.definitions.specs.Edit.{isStart}
 use Rattle.definitions.specs.Book.{word}
-use Rattle.definitions.specs.Write.{pair, writtenBegin, writtenAdd, writtenRefine, writtenArrow, written}
+use Rattle.definitions.specs.Write.{pair, writtenBegin, writtenAdd, writtenRefine, writtenArrow, writtenHold, written}
 use Rattle.definitions.proofs.Options.{equal-or-not}
 use Rattle.definitions.proofs.Words.{start-range}
 use Rattle.storing.specs.Stored.{Stored}
@@ -166,6 +166,20 @@ unfolding writtenArrow
 arrow-short t n x =
     option-short 8 (λ a. 0x14 ∷ (pair n ++ x ∷ (pair (a .target) ++ pair (a .cost)))) (t .transition n x) (λ a. omega arith)
 
+-- a hold at most 4
+pub hold-short : (t : Tree) (n : ℕ) → length (writtenHold t n) ≤ 4
+unfolding writtenHold
+hold-short t n = cond-short 4 (onHold t n) (0x1A ∷ (pair n ++ 1 ∷ [])) (omega arith)
+
+-- a node that is held, and one that is not
+pub hold-node : (t : Tree) (n : ℕ) {h : ℕ} → h ≡ t .hold n → h ≡ 1 → 0x1A ∷ (pair n ++ 1 ∷ []) ≡ writtenHold t n
+unfolding writtenHold
+hold-node t n says one = rw (← says, one)
+
+pub hold-none : (t : Tree) (n : ℕ) {h : ℕ} → h ≡ t .hold n → (h ≡ 1 → ⊥) → writtenHold t n ≡ []
+unfolding writtenHold
+hold-none t n {h} says other = rw (← says, ne-eqb h 1 other)
+
 -- the adds of a level
 pub adds-short : (t : Tree) (l : ℕ) → length (joined nodes (writtenAdd t l)) ≤ nodes * 4
 adds-short t l = joined-short 4 nodes (writtenAdd t l) (add-short t l)
@@ -249,10 +263,15 @@ root-start {t} s e w = told (t .start (t .root)) (s .root-used .1) (w ∙ ap (λ
 pub levels-short : (t : Tree) → length (joined levels (writtenLevel t)) ≤ levels * 2560
 levels-short t = joined-short 2560 levels (writtenLevel t) (level-short t)
 
--- begin, the levels, the transitions
-pub whole-stream : (t : Tree) {m f : ℕ} → m ≡ t .root → t .start (t .root) ≡ some f
-    → (0x10 ∷ m ∷ pair f) ++ (joined levels (writtenLevel t) ++ joined nodes (writtenArrows t)) ≡ written t
+-- all transitions
+pub all-arrows-short : (t : Tree) → length (joined nodes (writtenArrows t)) ≤ nodes * 128
+all-arrows-short t = joined-short 128 nodes (writtenArrows t) (arrows-short t)
+
+-- what follows begin: the levels, the transitions, the holds
+abbrev rest : Tree → List ℕ
+rest t = joined levels (writtenLevel t) ++ (joined nodes (writtenArrows t) ++ joined nodes (writtenHold t))
+
+pub whole-stream : (t : Tree) {m f : ℕ} → m ≡ t .root → t .start (t .root) ≡ some f → (0x10 ∷ m ∷ pair f) ++ rest t ≡ written t
 unfolding written
 whole-stream t {m} {f} e st =
-    ap (λ (k : ℕ). (0x10 ∷ k ∷ pair f) ++ (joined levels (writtenLevel t) ++ joined nodes (writtenArrows t))) e
-    ∙ ap (λ (b : List ℕ). b ++ (joined levels (writtenLevel t) ++ joined nodes (writtenArrows t))) (begin-root t st)
+    ap (λ (k : ℕ). (0x10 ∷ k ∷ pair f) ++ rest t) e ∙ ap (λ (b : List ℕ). b ++ rest t) (begin-root t st)

@@ -1,4 +1,4 @@
-// The stream that Write gives for the tree of a well-formed book (document 01, "Writing, choosing, the session").
+// The stream that Write gives for the tree of a well-formed book (document 01, "Writing, choosing, the session"; document 02, W-205).
 ghost use mathlib.Core.Path.{_≡_};
 ghost use mathlib.Core.List.{_∷_, _++_};
 ghost use Prim.Native.Nat.{_+_, _*_, _/_, _%_, _^_, _≤_, _<_};
@@ -7,12 +7,13 @@ ghost use Rattle.definitions.specs.Basics.{joined};
 ghost use Rattle.definitions.specs.Limits.{machines, nodes, commands, levels};
 ghost use Rattle.definitions.specs.Tree.{UsedNode, level};
 ghost use Rattle.definitions.specs.Book.{treeOf, WellFormed};
-ghost use Rattle.definitions.specs.Write.{pair, writtenAdd, writtenRefine, writtenArrow, written, WriteSays};
+ghost use Rattle.definitions.specs.Write.{pair, writtenAdd, writtenRefine, writtenArrow, writtenHold, written, WriteSays};
 ghost use Rattle.book.specs.Decides.{Decides};
 ghost use Rattle.storing.specs.Stored.{Stored};
 ghost use Rattle.writing.specs.Meaning.{Levels, writtenLevel, writtenArrows, answerOf};
 use storing::put_arrow;
 use storing::put_byte;
+use storing::put_node_byte;
 use storing::put_pair;
 
 // What Write answers: the length of the stream, or the number of a refusal.
@@ -22,7 +23,7 @@ pub enum WriteAnswer {
 }
 
 // The most bytes that a stream of Write has.
-const LONGEST: usize = 33918;
+const LONGEST: usize = 34812;
 
 // The level of node n's machine, if n is in use.
 fn node_level(book: &[u32], n: u32) -> u32
@@ -119,6 +120,17 @@ fn node_arrow(book: &[u32], n: u32, x: u32, out: &mut [u8], at: usize) -> usize
     put_arrow(out, at, n, x, w / 65536, w % 65536)
 }
 
+// Hold, if n is held.
+fn node_hold(book: &[u32], n: u32, out: &mut [u8], at: usize) -> usize
+    requires { ⌜ WellFormed (now book) × (n < nodes) × (at + 4 < 2 ^ 64) ⌝ }
+    ensures { λ r. ⌜ Stored (now (out .entry)) at (writtenHold (treeOf (now (book .entry))) n) r (now (out .exit)) ⌝ }
+{
+    if book::hold(book, n) != 1 {
+        return at;
+    }
+    put_node_byte(out, at, 0x1A, n, 1)
+}
+
 // The adds of level l, by rising node.
 fn adds(book: &[u32], list: &[u32; 256], l: u32, out: &mut [u8], at: usize) -> usize
     requires { ⌜ WellFormed (now book) × Levels (treeOf (now book)) nodes (now list) × (at + nodes * 4 < 2 ^ 64) ⌝ }
@@ -191,6 +203,20 @@ fn all_arrows(book: &[u32], out: &mut [u8], at: usize) -> usize
     p
 }
 
+// The holds of 1, by node.
+fn all_holds(book: &[u32], out: &mut [u8], at: usize) -> usize
+    requires { ⌜ WellFormed (now book) × (at + nodes * 4 < 2 ^ 64) ⌝ }
+    ensures { λ r. ⌜ Stored (now (out .entry)) at (joined nodes (writtenHold (treeOf (now (book .entry))))) r (now (out .exit)) ⌝ }
+{
+    let mut p = at;
+    let mut n = 0u32;
+    while n < book::NODES {
+        p = node_hold(book, n, out, p);
+        n += 1;
+    }
+    p
+}
+
 // Stores the stream at the front of a list, as far as the list goes; the stream's length.
 fn put_stream(book: &[u32], out: &mut [u8]) -> usize
     requires { ⌜ WellFormed (now book) ⌝ }
@@ -200,7 +226,8 @@ fn put_stream(book: &[u32], out: &mut [u8]) -> usize
     let s = book::start(book, m);
     let p = put_place(out, 0, 0x10, m, s);
     let q = all_levels(book, out, p);
-    all_arrows(book, out, q)
+    let r = all_arrows(book, out, q);
+    all_holds(book, out, r)
 }
 
 // The length of the stream.

@@ -1,6 +1,6 @@
 //! Ways to damage a book.
 
-use himm_model::book::{machine_at, node_at};
+use himm_model::book::{hold_at, machine_at, node_at};
 use himm_model::random::Random;
 use himm_model::{COMMANDS, MACHINES, NODES};
 
@@ -12,11 +12,11 @@ pub fn words(random: &mut Random, old: u32) -> Vec<u32> {
     all
 }
 
-/// Copies a root, holder, start, owner, machine below, transition or a whole record over another of its kind.
+/// Copies a root, holder, start, owner, machine below, transition or a whole record over another of its kind, or turns a hold round.
 pub fn copy_a_field(random: &mut Random, book: &mut [u32]) {
     let (m, n) = (machine_at(random.below(MACHINES)), machine_at(random.below(MACHINES)));
     let (u, v) = (node_at(random.below(NODES)), node_at(random.below(NODES)));
-    match random.below(8) {
+    match random.below(9) {
         0 => book[0] = random.below(MACHINES) as u32,
         1 => book[m] = book[n],
         2 => book[m + 1] = book[n + 1],
@@ -24,12 +24,13 @@ pub fn copy_a_field(random: &mut Random, book: &mut [u32]) {
         4 => book[u + 1] = book[v + 1],
         5 => book[u + 2 + random.below(COMMANDS)] = book[v + 2 + random.below(COMMANDS)],
         6 => book.copy_within(v..v + 18, u),
+        7 => book[hold_at(random.below(NODES))] ^= 1,
         _ => book.copy_within(n..n + 2, m),
     }
 }
 
 /// Machine m with the one node m, which holds machine `below`.
-pub fn hold(book: &mut [u32], m: usize, below: usize) {
+pub fn put_over(book: &mut [u32], m: usize, below: usize) {
     book[machine_at(below)] = m as u32;
     book[machine_at(m) + 1] = m as u32;
     book[node_at(m)] = m as u32;

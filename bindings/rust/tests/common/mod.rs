@@ -3,11 +3,11 @@
 
 pub mod damage;
 
-use himm::{raw, Timing};
+use himm::{raw, Refusal, Timing};
 use himm_model::flat::Flat;
 use himm_model::import::{Import, Reading};
 use himm_model::sheet::{is_stale, is_true, machine_row, node_row, Exits};
-use himm_model::stream::{Loaded, Row, Station};
+use himm_model::stream::{Command, Loaded, Row, Station};
 use himm_model::tree::{Moved, Tree};
 use himm_model::{book, calls, random, sheet, COMMANDS, MACHINES, NODES};
 use std::fmt::Debug;
@@ -29,6 +29,22 @@ pub const MAST: &str = "10 00 0000 11 00 0001 11 00 0002 12 0001 01 000A 11 01 0
 pub fn hex(text: &str) -> Vec<u8> {
     let digits: Vec<u32> = text.chars().filter_map(|c| c.to_digit(16)).collect();
     digits.chunks(2).map(|pair| (pair[0] * 16 + pair[1]) as u8).collect()
+}
+
+/// The mast book with further commands, as hexadecimal text, and then a refresh.
+pub fn mast(more: &str) -> Holding {
+    Holding::loaded(&hex(&(MAST.to_string() + more)))
+}
+
+/// The cost and the commands of a plan.
+pub fn plan(holding: &Holding, from: u32, to: u32) -> Result<(u32, Vec<u8>), Refusal> {
+    let mut buffer = [0; himm::PLAN_BYTES];
+    himm::plan(&holding.book, &holding.sheet, from, to, &mut buffer).map(|plan| (plan.cost, plan.commands.to_vec()))
+}
+
+/// The bytes of a hold of 1 or 0 on a node.
+pub fn hold(node: usize, hold: usize) -> Vec<u8> {
+    Command::Hold { node, hold }.bytes()
 }
 
 /// How often each of some answers was given.

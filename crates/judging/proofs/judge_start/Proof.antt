@@ -27,12 +27,29 @@ returns-2 c =
     test-false _ _ (p1 .before .bad-node .ensures) (p1 .if1 .left)
     (test-true _ (ap not (c .before .used-node .ensures)) (c .if2 .taken))
 
+on-hold-requires : tie.Need-on-hold-requires
+on-hold-requires c κs =
+    let p1 = c .before .before in
+    let e = p1 .before .before .before in
+    (e .pre, node-range (e .args .n) (p1 .before .bad-node .ensures) (p1 .if1 .left))
+
 returns-3 : tie.Need-returns-3
 unfolding refusal refusals
 returns-3 c =
-    let p1 = c .before .before in
+    let p2 = c .before .before in
+    let p1 = p2 .before .before in
     test-false _ _ (p1 .before .bad-node .ensures) (p1 .if1 .left)
-    (test-false _ _ (ap not (c .before .used-node .ensures)) (c .if2 .left) no-test)
+    (test-false _ _ (ap not (p2 .before .used-node .ensures)) (p2 .if2 .left)
+    (test-true _ (c .before .on-hold .ensures) (c .if3 .taken)))
+
+returns-4 : tie.Need-returns-4
+unfolding refusal refusals
+returns-4 c =
+    let p2 = c .before .before in
+    let p1 = p2 .before .before in
+    test-false _ _ (p1 .before .bad-node .ensures) (p1 .if1 .left)
+    (test-false _ _ (ap not (p2 .before .used-node .ensures)) (p2 .if2 .left)
+    (test-false _ _ (c .before .on-hold .ensures) (c .if3 .left) no-test))
 
 pub judge-start-spec : {M : Type 1} → statement M
-judge-start-spec = tie.close (tie.spec bad-node-requires returns used-node-requires returns-2 returns-3)
+judge-start-spec = tie.close (tie.spec bad-node-requires returns used-node-requires returns-2 on-hold-requires returns-3 returns-4)

@@ -56,6 +56,12 @@ judge-crown-requires c κs = search needs
 enum-told : tie.Need-enum-told
 enum-told c = search needs
 
+enum-known-command-9 : tie.Need-enum-known-command-9
+enum-known-command-9 c = search needs
+
+judge-hold-requires : tie.Need-judge-hold-requires
+judge-hold-requires c κs = search needs
+
 returns : tie.Need-returns
 returns c = rw (c .before .before .command .given .1) (c .judge-begin .ensures _)
 
@@ -83,6 +89,9 @@ returns-8 c = rw (c .before .before .command8 .given .1) (c .judge-crown .ensure
 returns-9 : tie.Need-returns-9
 returns-9 c = rw (c .enum-told .given .1) (sym (taken-refresh _))
 
+returns-10 : tie.Need-returns-10
+returns-10 c = rw (c .before .before .command9 .given .1) (c .judge-hold .ensures)
+
 pub refusal-spec : {M : Type 1} → statement M
 refusal-spec =
     tie.close
@@ -104,6 +113,8 @@ refusal-spec =
     enum-known-command-8
     judge-crown-requires
     enum-told
+    enum-known-command-9
+    judge-hold-requires
     returns
     returns-2
     returns-3
@@ -112,4 +123,5 @@ refusal-spec =
     returns-6
     returns-7
     returns-8
-    returns-9)
+    returns-9
+    returns-10)

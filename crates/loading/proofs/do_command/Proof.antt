@@ -65,6 +65,12 @@ enum-told c = search needs
 refresh-requires : tie.Need-refresh-requires
 refresh-requires c κs = let p = c .before .before .before .before .before .before .pre in (p .formed, p .filled)
 
+enum-known-command-9 : tie.Need-enum-known-command-9
+enum-known-command-9 c = search needs
+
+do-hold-requires : tie.Need-do-hold-requires
+do-hold-requires c κs = ready (c .before .before .before .before .before .before .before .pre) (c .before .before .before .command9 .given .1) refl
+
 same-length : tie.Need-same-length
 same-length c = search needs
 
@@ -180,6 +186,19 @@ returns-9 c =
     let d = c .before .before in
     refresh-done (d .before .before .before .before .before .before .before .pre) (d .before .before .before .enum-told .given .1) refl (d .refresh .ensures)
 
+same-length-19 : tie.Need-same-length-19
+same-length-19 c = search needs
+
+same-length-20 : tie.Need-same-length-20
+same-length-20 c = search needs
+
+returns-10 : tie.Need-returns-10
+returns-10 c =
+    let d = c .before .before .before .before in
+    let p = d .before .before .before .before .before .before .before .before .pre in
+    let told = d .before .before .before .before .command9 .given .1 in
+    edit-done p told refl tt (d .do-hold .ensures)
+
 pub do-command-spec : {M : Type 1} → statement M
 do-command-spec =
     tie.close
@@ -202,6 +221,8 @@ do-command-spec =
     do-crown-requires
     enum-told
     refresh-requires
+    enum-known-command-9
+    do-hold-requires
     same-length
     same-length-2
     returns
@@ -228,4 +249,7 @@ do-command-spec =
     returns-8
     same-length-17
     same-length-18
-    returns-9)
+    returns-9
+    same-length-19
+    same-length-20
+    returns-10)

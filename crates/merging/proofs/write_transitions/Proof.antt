@@ -7,7 +7,7 @@ use denote.Ref.{now}
 use lib.ListN.{length}
 use Rattle.definitions.specs.Limits.{machines, commands, bookLength}
 use Rattle.book.specs.Recorded.{Recorded}
-use Rattle.book.proofs.Recorded.{recorded-node}
+use Rattle.book.proofs.Recorded.{recorded-fields}
 use Rattle.merging.specs.Merging.{rootedTree}
 use Rattle.merging.proofs.Rooted.{recorded-transition}
 use Rattle.merging.proofs.write_transitions.Statement.{statement}
@@ -57,7 +57,7 @@ same-length c = c .before .loop .inv .1 ∙ sym (c .before .before .before .befo
 returns : tie.Need-returns Inv-loop μ-loop
 returns c =
     let l = c .before .loop in
-    λ r a b s less. recorded-node (omega arith) (l .inv .2 r a b s less)
+    λ r a b s less. recorded-fields (omega arith) (l .inv .2 r a b s less)
 
 pub write-transitions-spec : {M : Type 1} → statement M
 write-transitions-spec =

@@ -5,13 +5,16 @@ use Rattle.random_plans.proofs.plan_all.Statement.{statement}
 use Rattle.random_plans.proofs.plan_all.Tie as tie
 
 abbrev Inv-loop : tie.InvT-loop
-Inv-loop book sheet s seed₀ sources tally₀ moves all room a₀ seed tally a = Unit {0}
+Inv-loop book sheet s seed₀ sources tally₀ moves released all room a₀ seed tally a = Unit {0}
 
 abbrev μ-loop : tie.MeasureT-loop
-μ-loop book sheet s seed₀ sources tally₀ moves all room a₀ seed tally a = 256 - a
+μ-loop book sheet s seed₀ sources tally₀ moves released all room a₀ seed tally a = 256 - a
 
 all-moves-requires : tie.Need-all-moves-requires Inv-loop μ-loop
 all-moves-requires c κs = search needs
+
+released-moves-requires : tie.Need-released-moves-requires Inv-loop μ-loop
+released-moves-requires c κs = search needs
 
 states-requires : tie.Need-states-requires Inv-loop μ-loop
 states-requires c κs = search needs
@@ -50,6 +53,7 @@ plan-all-spec =
     Inv-loop
     μ-loop
     all-moves-requires
+    released-moves-requires
     states-requires
     longest-requires
     loop-holds

@@ -8,7 +8,7 @@ abbrev Inv-loop : tie.InvT-loop
 Inv-loop book₀ sheet₀ s₀ seed₀ tally₀ bytes₀ i₀ book sheet s seed tally bytes i = Unit {0}
 
 abbrev μ-loop : tie.MeasureT-loop
-μ-loop book₀ sheet₀ s₀ seed₀ tally₀ bytes₀ i₀ book sheet s seed tally bytes i = 12 - i
+μ-loop book₀ sheet₀ s₀ seed₀ tally₀ bytes₀ i₀ book sheet s seed tally bytes i = 18 - i
 
 loop-holds : tie.Need-loop-holds Inv-loop μ-loop
 loop-holds c = search needs

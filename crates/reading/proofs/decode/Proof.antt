@@ -81,6 +81,14 @@ operand-pair-requires-11 : tie.Need-operand-pair-requires-11
 unfolding operandLength
 operand-pair-requires-11 c κs = omega (arith, c .before .before .before .pre 3 (ap operandLength (c .before .match .keys8)))
 
+operand-pair-requires-12 : tie.Need-operand-pair-requires-12
+unfolding operandLength
+operand-pair-requires-12 c κs = omega (arith, c .before .before .pre 3 (ap operandLength (c .match .keys10)))
+
+operand-requires-7 : tie.Need-operand-requires-7
+unfolding operandLength
+operand-requires-7 c κs = omega (arith, c .before .before .before .pre 3 (ap operandLength (c .before .match .keys10)))
+
 returns : tie.Need-returns
 unfolding decode
 returns c =
@@ -144,12 +152,23 @@ unfolding decode
 returns-9 c = (rw (c .match .keys9), tt)
 
 returns-10 : tie.Need-returns-10
+unfolding decode
 returns-10 c =
-    let r = c .match .rest in
+    let node = c .before .operand-pair12 .ensures in
+    let hold = c .operand7 .ensures in
+    (rw (c .before .before .match .keys10, node .0, hold .0), (node .1, hold .1))
+
+returns-11 : tie.Need-returns-11
+unfolding decode
+returns-11 c = (rw (c .match .keys11), tt)
+
+returns-12 : tie.Need-returns-12
+returns-12 c =
+    let r = c .match .rest .0 in
     let a = c .before .before .args in
     let none-known =
-    unknown (a .op) (r .0 .0 .0 .0 .0 .0 .0 .0 .1) (r .0 .0 .0 .0 .0 .0 .0 .1) (r .0 .0 .0 .0 .0 .0 .1) (r .0 .0 .0 .0 .0 .1)
-    (r .0 .0 .0 .0 .1) (r .0 .0 .0 .1) (r .0 .0 .1) (r .0 .1) (r .1) in
+    unknown (a .op) (r .0 .0 .0 .0 .0 .0 .0 .0 .0 .1) (r .0 .0 .0 .0 .0 .0 .0 .0 .1) (r .0 .0 .0 .0 .0 .0 .0 .1) (r .0 .0 .0 .0 .0 .0 .1)
+    (r .0 .0 .0 .0 .0 .1) (r .0 .0 .0 .0 .1) (r .0 .0 .0 .1) (r .0 .0 .1) (r .0 .1) (r .1) in
     (sym (unknown-undecoded (a .op) (drop (a .at + 1) (now (a .stream))) none-known), tt)
 
 pub decode-spec : {M : Type 1} → statement M
@@ -173,6 +192,8 @@ decode-spec =
     operand-pair-requires-10
     operand-requires-6
     operand-pair-requires-11
+    operand-pair-requires-12
+    operand-requires-7
     returns
     returns-2
     returns-3
@@ -182,4 +203,6 @@ decode-spec =
     returns-7
     returns-8
     returns-9
-    returns-10)
+    returns-10
+    returns-11
+    returns-12)

@@ -1,97 +1,47 @@
--- `truesheet::relaxed_by` meets its contract: a transition or none, then the own exit cost. Assumes nothing.
-use mathlib.Core.Path.{_∙_}
-use mathlib.Core.Logic.{⊎-elim}
-use native.Mathlib.Omega.{arith}
-use denote.Ref.{now}
+-- `truesheet::relaxed_by` meets its contract: the word of the transition that counts is BLANK or the node's own. Assumes nothing.
+use mathlib.Core.Path.{sym, _∙_}
 use borrow.Author.Needs.{needs}
-use Rattle.sheet.proofs.Reading.{rowsOf-read}
-use Rattle.sheet.proofs.Exits.{exits-some}
-use Rattle.truesheet.proofs.Nodes.{relaxed-never, relaxed-exit, relaxed-move}
+use Rattle.book.proofs.Counts.{shut-word, open-word}
 use Rattle.truesheet.proofs.relaxed_by.Statement.{statement}
 use Rattle.truesheet.proofs.relaxed_by.Tie as tie
 
-counting-requires : tie.Need-counting-requires
-counting-requires c κs = search needs
+transition-requires : tie.Need-transition-requires
+transition-requires c κs = search needs
 
-cost-requires : tie.Need-cost-requires
-cost-requires c κs = search needs
+shut-requires : tie.Need-shut-requires
+shut-requires c κs = search needs
 
-exit-requires : tie.Need-exit-requires
-exit-requires c κs = search needs
-
-own-exit-requires : tie.Need-own-exit-requires
-own-exit-requires c κs = search needs
-
-enum-known-e : tie.Need-enum-known-e
-enum-known-e c = search needs
-
-enum-told : tie.Need-enum-told
-enum-told c = search needs
+relaxed-word-requires : tie.Need-relaxed-word-requires
+relaxed-word-requires c κs =
+    let w = c .before .before in
+    let e = w .before .before .before in
+    let a = e .args in (
+      e .pre .0,
+      e .pre .1,
+      e .pre .2,
+      e .pre .3,
+      shut-word (e .pre .0 .well-formed .sound) (a .n) (a .x) (w .transition .ensures) (sym (c .before .shut .ensures) ∙ c .if1 .taken),
+    )
 
 returns : tie.Need-returns
-returns c =
-    let x = c .before .before in
-    let s = x .before .before .before .before .before .before .before in
-    let a = s .args in
-    relaxed-never (s .pre .0 .well-formed .sound) (rowsOf-read (now (a .sheet))) (a .m) (a .n) (a .c) (a .x) (x .own-exit .ensures)
-    (c .enum-told .given .1)
+returns c = c .relaxed-word .ensures
 
-wide-requires : tie.Need-wide-requires
-wide-requires c κs = search needs
-
-add-at-most : tie.Need-add-at-most
-add-at-most c =
-    let p = c .before .before in
-    let x = p .before .before in
-    omega (arith, exits-some (x .own-exit .ensures) (p .e .given .1) .1)
-
-wide-requires-2 : tie.Need-wide-requires-2
-wide-requires-2 c κs = search needs
-
-add-at-most-2 : tie.Need-add-at-most-2
-add-at-most-2 c =
-    let p = c .before .before .before in
-    let x = p .before .before in
-    omega (arith, exits-some (x .own-exit .ensures) (p .e .given .1) .1, c .before .wide .ensures .1)
-
-at-most-requires : tie.Need-at-most-requires
-at-most-requires c κs = search needs
+relaxed-word-requires-2 : tie.Need-relaxed-word-requires-2
+relaxed-word-requires-2 c κs =
+    let w = c .before .before in
+    let e = w .before .before .before in
+    let a = e .args in (
+      e .pre .0,
+      e .pre .1,
+      e .pre .2,
+      e .pre .3,
+      open-word (e .pre .0 .well-formed .sound) (a .n) (a .x) (w .transition .ensures) (sym (c .before .shut .ensures) ∙ c .if1 .left),
+    )
 
 returns-2 : tie.Need-returns-2
-returns-2 c =
-    let p = c .before .before .before .before in
-    let x = p .before .before in
-    let e = x .before .before in
-    let k = e .before .before in
-    let s = k .before .before .before in
-    let a = s .args in
-    let sound = s .pre .0 .well-formed .sound in
-    let rows = rowsOf-read (now (a .sheet)) in
-    ⊎-elim
-    (λ v.
-    relaxed-move sound rows (a .m) (a .n) (a .c) (a .x) (x .own-exit .ensures) (p .e .given .1) (k .counting .ensures)
-    (c .before .before .wide .ensures .0) (c .at-most .result) (v .0 .taken) (v .1 ∙ e .before .cost .ensures)
-    (c .before .wide2 .ensures .0 ∙ v .2) (c .at-most .ensures))
-    (λ v.
-    relaxed-exit sound rows (a .m) (a .n) (a .c) (a .x) (x .own-exit .ensures) (p .e .given .1) (k .counting .ensures)
-    (c .before .before .wide .ensures .0) (c .at-most .result) (v .0 .left) (v .1 ∙ e .exit .ensures)
-    (c .before .wide2 .ensures .0 ∙ v .2) (c .at-most .ensures))
-    (x .before .if1 .came)
+returns-2 c = c .relaxed-word2 .ensures
 
 pub relaxed-by-spec : {M : Type 1} → statement M
 relaxed-by-spec =
     tie.close
-    (tie.spec
-    counting-requires
-    cost-requires
-    exit-requires
-    own-exit-requires
-    enum-known-e
-    enum-told
-    returns
-    wide-requires
-    add-at-most
-    wide-requires-2
-    add-at-most-2
-    at-most-requires
-    returns-2)
+    (tie.spec transition-requires shut-requires relaxed-word-requires returns relaxed-word-requires-2 returns-2)

@@ -1,11 +1,11 @@
--- `writing::put_stream` meets its contract: begin, the levels and the transitions, one after the other. Assumes nothing.
+-- `writing::put_stream` meets its contract: begin, the levels, the transitions and the holds, one after the other. Assumes nothing.
 use borrow.Author.Needs.{needs}
 use native.Mathlib.Omega.{arith}
 use denote.Ref.{now}
 use Rattle.definitions.specs.Book.{treeOf}
 use Rattle.definitions.proofs.Words.{start-range}
 use Rattle.storing.proofs.Laws.{stored-is, stored-then}
-use Rattle.writing.proofs.Laws.{root-range, root-start, levels-short, whole-stream}
+use Rattle.writing.proofs.Laws.{root-range, root-start, levels-short, all-arrows-short, whole-stream}
 use Rattle.writing.proofs.put_stream.Statement.{statement}
 use Rattle.writing.proofs.put_stream.Tie as tie
 
@@ -33,19 +33,29 @@ all-arrows-requires c κs =
     let e = c .before .before .before .before .before .before .before .before .before .before .before .before .before in
     (e .pre, omega (arith, b .put-place .ensures .place, l .all-levels .ensures .place, levels-short (treeOf (now (e .args .book)))))
 
+all-holds-requires : tie.Need-all-holds-requires
+all-holds-requires c κs =
+    let a = c .before .before .before in
+    let l = a .before .before .before .before in
+    let b = l .before .before .before .before in
+    let e = b .before .before .before .before .before .before in
+    let t = treeOf (now (e .args .book)) in
+    (e .pre, omega (arith, b .put-place .ensures .place, l .all-levels .ensures .place, a .all-arrows .ensures .place, levels-short t, all-arrows-short t))
+
 same-length : tie.Need-same-length
 same-length c = search needs
 
 returns : tie.Need-returns
 returns c =
-    let a = c .before .before in
+    let h = c .before .before in
+    let a = h .before .before .before .before in
     let l = a .before .before .before .before in
     let b = l .before .before .before .before in
     let f = b .before .before in
     let r = f .before in
     let e = r .before .before .before in
     let st = root-start (e .pre .sound) (r .root .ensures) (f .start .ensures) in
-    stored-is (stored-then (b .put-place .ensures) (stored-then (l .all-levels .ensures) (a .all-arrows .ensures)))
+    stored-is (stored-then (b .put-place .ensures) (stored-then (l .all-levels .ensures) (stored-then (a .all-arrows .ensures) (h .all-holds .ensures))))
     (whole-stream (treeOf (now (e .args .book))) (r .root .ensures) st)
 
 pub put-stream-spec : {M : Type 1} → statement M
@@ -57,5 +67,6 @@ put-stream-spec =
     put-place-requires
     all-levels-requires
     all-arrows-requires
+    all-holds-requires
     same-length
     returns)

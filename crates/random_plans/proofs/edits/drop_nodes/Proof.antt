@@ -22,6 +22,9 @@ put-requires c κs = search needs
 put-requires-2 : tie.Need-put-requires-2 Inv-loop μ-loop
 put-requires-2 c κs = search needs
 
+put-requires-3 : tie.Need-put-requires-3 Inv-loop μ-loop
+put-requires-3 c κs = search needs
+
 drop-transitions-requires : tie.Need-drop-transitions-requires Inv-loop μ-loop
 drop-transitions-requires c κs = search needs
 
@@ -50,6 +53,7 @@ drop-nodes-spec =
     is-gone-requires
     put-requires
     put-requires-2
+    put-requires-3
     drop-transitions-requires
     drop-transitions-requires-2
     add-k

@@ -13,8 +13,8 @@ abbrev μ-loop : tie.MeasureT-loop
 loop-holds : tie.Need-loop-holds Inv-loop μ-loop
 loop-holds c = search needs
 
-transition-requires : tie.Need-transition-requires Inv-loop μ-loop
-transition-requires c κs = search needs
+counting-requires : tie.Need-counting-requires Inv-loop μ-loop
+counting-requires c κs = search needs
 
 returns : tie.Need-returns Inv-loop μ-loop
 returns c = search needs
@@ -41,7 +41,7 @@ lowest-spec =
     Inv-loop
     μ-loop
     loop-holds
-    transition-requires
+    counting-requires
     returns
     above-requires
     add-i

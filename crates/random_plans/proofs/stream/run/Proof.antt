@@ -5,10 +5,10 @@ use Rattle.random_plans.proofs.stream.run.Statement.{statement}
 use Rattle.random_plans.proofs.stream.run.Tie as tie
 
 abbrev Inv-loop : tie.InvT-loop
-Inv-loop s₀ stream length bytes₀ commands₀ s bytes commands = bytes ≤ 16 * commands
+Inv-loop s₀ stream length bytes₀ commands₀ holds₀ s bytes commands holds = bytes ≤ 16 * commands
 
 abbrev μ-loop : tie.MeasureT-loop
-μ-loop s₀ stream length bytes₀ commands₀ s bytes commands = 8192 - commands
+μ-loop s₀ stream length bytes₀ commands₀ holds₀ s bytes commands holds = 8192 - commands
 
 loop-holds : tie.Need-loop-holds Inv-loop μ-loop
 loop-holds c = search needs
@@ -24,6 +24,12 @@ add-bytes c = search needs
 
 add-commands : tie.Need-add-commands Inv-loop μ-loop
 add-commands c = search needs
+
+cast-holds : tie.Need-cast-holds Inv-loop μ-loop
+cast-holds c = search needs
+
+add-holds : tie.Need-add-holds Inv-loop μ-loop
+add-holds c = search needs
 
 loop-less : tie.Need-loop-less Inv-loop μ-loop
 loop-less c = search needs
@@ -45,6 +51,8 @@ run-spec =
     returns
     add-bytes
     add-commands
+    cast-holds
+    add-holds
     loop-less
     loop-again
     returns-2)

@@ -8,7 +8,7 @@ abbrev Inv-loop : tie.InvT-loop
 Inv-loop tally base k₀ t5 t6 k = Unit {0}
 
 abbrev μ-loop : tie.MeasureT-loop
-μ-loop tally base k₀ t5 t6 k = 16 - k
+μ-loop tally base k₀ t5 t6 k = 32 - k
 
 loop-holds : tie.Need-loop-holds Inv-loop μ-loop
 loop-holds c = search needs

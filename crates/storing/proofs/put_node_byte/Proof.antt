@@ -1,8 +1,8 @@
--- `importing::put_clear` meets its contract: its bytes are stored one after the other. Assumes nothing.
+-- `storing::put_node_byte` meets its contract: its bytes are stored one after the other. Assumes nothing.
 use borrow.Author.Needs.{needs}
 use Rattle.storing.proofs.Laws.{stored-then}
-use Rattle.importing.proofs.put_clear.Statement.{statement}
-use Rattle.importing.proofs.put_clear.Tie as tie
+use Rattle.storing.proofs.put_node_byte.Statement.{statement}
+use Rattle.storing.proofs.put_node_byte.Tie as tie
 
 put-byte-requires : tie.Need-put-byte-requires
 put-byte-requires c κs = search needs
@@ -23,5 +23,5 @@ returns c =
     let a = b .before .before .before .before in
     stored-then (a .put-byte .ensures) (stored-then (b .put-pair .ensures) (d .put-byte2 .ensures))
 
-pub put-clear-spec : {M : Type 1} → statement M
-put-clear-spec = tie.close (tie.spec put-byte-requires put-pair-requires put-byte-requires-2 same-length returns)
+pub put-node-byte-spec : {M : Type 1} → statement M
+put-node-byte-spec = tie.close (tie.spec put-byte-requires put-pair-requires put-byte-requires-2 same-length returns)
