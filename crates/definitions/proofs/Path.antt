@@ -192,18 +192,7 @@ enters-state s (down {b = b} {f = f} bel st en) own = enters-state s en (s .star
 
 -- ---- the climb
 
--- a transition that counts is one of its node's, and its target is not held
-pub counting-parts : (t : Tree) (n x : ℕ) (a : Transition) → counting t n x ≡ some a → (t .transition n x ≡ some a) × (onHold t (a .target) ≡ false)
-unfolding counting
-counting-parts t n x a e =
-    let (b, has, left) = bind-some (t .transition n x) (λ b. unless (onHold t (b .target)) (some b)) e in
-    let (free, same) = unless-some (onHold t (b .target)) (some b) left in
-    (has ∙ same, ap (λ (o : Option Transition). option false (λ c. onHold t (c .target)) o) (sym same) ∙ free)
-
-pub counting-is : (t : Tree) (n x : ℕ) (a : Transition) → counting t n x ≡ some a → t .transition n x ≡ some a
-counting-is t n x a e = counting-parts t n x a e .0
-
--- and one whose target is not held counts; one whose target is held does not
+-- a transition whose target is not held counts; one whose target is held does not
 pub counting-some : (t : Tree) (n x : ℕ) (a : Transition) → t .transition n x ≡ some a → onHold t (a .target) ≡ false → counting t n x ≡ some a
 unfolding counting
 counting-some t n x a has free = rw (has, free)
@@ -215,6 +204,17 @@ counting-shut t n x a has shut = rw (has, shut)
 pub counting-none : (t : Tree) (n x : ℕ) → t .transition n x ≡ none → counting t n x ≡ none
 unfolding counting
 counting-none t n x e = rw e
+
+-- and one that counts is one of its node's, and its target is not held
+pub counting-parts : (t : Tree) (n x : ℕ) (a : Transition) → counting t n x ≡ some a → (t .transition n x ≡ some a) × (onHold t (a .target) ≡ false)
+unfolding counting
+counting-parts t n x a e =
+    let (b, has, left) = bind-some (t .transition n x) (λ b. unless (onHold t (b .target)) (some b)) e in
+    let (free, same) = unless-some (onHold t (b .target)) (some b) left in
+    (has ∙ same, ap (λ (o : Option Transition). option false (λ c. onHold t (c .target)) o) (sym same) ∙ free)
+
+pub counting-is : (t : Tree) (n x : ℕ) (a : Transition) → counting t n x ≡ some a → t .transition n x ≡ some a
+counting-is t n x a e = counting-parts t n x a e .0
 
 -- so it is for a command, and stays in the machine of its node
 pub counting-range : {t : Tree} → Sound t → (n x : ℕ) (a : Transition) → counting t n x ≡ some a → x < commands
