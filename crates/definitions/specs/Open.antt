@@ -136,14 +136,7 @@ rowTree rows = grown rows (rowCount rows) (rootOf (grown rows (rowCount rows) ab
 -- the rows of an opening: every machine in use is marked, and all is blank
 unfoldable pub openRows : Tree → Rows
 openRows t =
-    record {
-      stale = usedMachine t;
-      exit = λ m x. none;
-      last = λ m x. none;
-      cost = λ n. none;
-      before = λ n. none;
-      by = λ n. none;
-    }
+    record { stale = usedMachine t; exit = λ m x. none; last = λ m x. none; cost = λ n. none; before = λ n. none; by = λ n. none }
 
 -- the two openings, and the tree of each
 pub data Opening : Type 0 where

@@ -35,41 +35,17 @@ pub record Tree : Type 0 where
 -- the tree with m as its root
 abbrev pub withRoot : Tree → ℕ → Tree
 withRoot t m =
-    record {
-      root = m;
-      owner = t .owner;
-      below = t .below;
-      start = t .start;
-      holder = t .holder;
-      transition = t .transition;
-      hold = t .hold;
-    }
+    record { root = m; owner = t .owner; below = t .below; start = t .start; holder = t .holder; transition = t .transition; hold = t .hold }
 
 -- the tree with other fields of its nodes
 abbrev pub withNodes : Tree → (owner below : ℕ → Option ℕ) → (transition : ℕ → ℕ → Option Transition) → (hold : ℕ → ℕ) → Tree
 withNodes t owner below transition hold =
-    record {
-      root = t .root;
-      owner = owner;
-      below = below;
-      start = t .start;
-      holder = t .holder;
-      transition = transition;
-      hold = hold;
-    }
+    record { root = t .root; owner = owner; below = below; start = t .start; holder = t .holder; transition = transition; hold = hold }
 
 -- the tree with other fields of its machines
 abbrev pub withMachines : Tree → (start holder : ℕ → Option ℕ) → Tree
 withMachines t start holder =
-    record {
-      root = t .root;
-      owner = t .owner;
-      below = t .below;
-      start = start;
-      holder = holder;
-      transition = t .transition;
-      hold = t .hold;
-    }
+    record { root = t .root; owner = t .owner; below = t .below; start = start; holder = holder; transition = t .transition; hold = t .hold }
 
 -- the tree with o as the owner of node n
 abbrev pub withOwner : Tree → ℕ → Option ℕ → Tree
