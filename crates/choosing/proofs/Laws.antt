@@ -12,8 +12,7 @@ use Rattle.definitions.specs.Limits.{commands, largestCost, longestList}
 use Rattle.definitions.specs.Tree.{Tree, UsedNode, Sound}
 use Rattle.definitions.specs.Step.{Arrival, step}
 use Rattle.definitions.specs.Choose.{Used, usedPart, usedOf}
-use Rattle.definitions.proofs.Path.{climb-found, enter-enters, enters-state}
-use Rattle.definitions.proofs.Simple.{step-cost, step-stepped}
+use Rattle.definitions.proofs.Simple.{step-cost, step-state}
 
 -- a used part with i commands at cost c before it
 abbrev pub shifted : ℕ → ℕ → Option Used → Option Used
@@ -128,9 +127,7 @@ module _ {t : Tree} (sound : Sound t) {a b : ℕ} {list : List ℕ} {s i cost : 
     pub upto-moves : x < commands → {n c : ℕ} → step t s x ≡ some (record { node = n; cost = c }) → Upto t a b list n (i + 1) (cost + c)
     upto-moves range {n} {c} moved =
         let cheap = step-cost sound (t .root) s x moved in
-        let stepped = step-stepped t (t .root) s x moved in
-        let target = climb-found sound (t .root) s x (stepped .finds) .target-owner in
-        let (m, own, plain) = enters-state sound (enter-enters sound target (stepped .enters)) target in
+        let (m, own, plain) = step-state sound (t .root) s x moved in
         record {
           used = (m, own);
           plain = plain;

@@ -17,7 +17,7 @@ use Rattle.definitions.specs.Tree.{Tree, Transition, Sound, isState, sta
 use Rattle.definitions.specs.Step.{enter, startState, counting, leaving, leavingOf, Climb, found, passed, past, firstOf, look, climb, Arrival, follow, stepIn, step, runIn, Moves, passes}
 use Rattle.definitions.specs.Costs.{LeastCost, ExitCost}
 use Rattle.definitions.proofs.Options.{bind-some, none-some, some-same, and-true, equal-or-not, isAt-some, isSome-true}
-use Rattle.definitions.proofs.Path.{Deep, at-root, under, root-holder, deep, path-on, enter-enters, enters-state, counting-is, leaving-free, Inside, own, deeper}
+use Rattle.definitions.proofs.Path.{Deep, at-root, under, root-holder, deep, path-on, climb-found, enter-enters, enters-state, counting-is, leaving-free, Inside, own, deeper}
 use Rattle.definitions.proofs.Runs.{onto, run-first, run-cons, run-nil}
 use Rattle.definitions.proofs.Exits.{ExitParts, exit-parts, parts-exit}
 use Rattle.definitions.proofs.Inside.{inside-owner, enters-inside, found-inside}
@@ -241,6 +241,14 @@ step-stepped t top s x {a} e = go (climb t top s x) refl e
     go (found u v c) up f =
         let (n, en, same) = bind-some (enter t v) (λ n. some (record { node = n; cost = c })) f in
         subst (Stepped t top s x) (some-same refl same) (record { node = u; target = v; finds = up; enters = en })
+
+-- a step leads to a state
+pub step-state : {t : Tree} → Sound t → (top s x : ℕ) {a : Arrival} → stepIn t top s x ≡ some a
+    → (m : ℕ) × (t .owner (a .node) ≡ some m) × (t .below (a .node) ≡ none)
+step-state {t} sound top s x e =
+    let way = step-stepped t top s x e in
+    let target = climb-found sound top s x (way .finds) .target-owner in
+    enters-state sound (enter-enters sound target (way .enters)) target
 
 -- one command costs at most 65,535
 pub step-cost : {t : Tree} → Sound t → (top s x : ℕ) {a : Arrival} → stepIn t top s x ≡ some a → a .cost ≤ largestCost

@@ -5,7 +5,7 @@ ghost use Prim.Native.Nat.{_<_};
 ghost use lib.Dec.{eqb};
 ghost use lib.ListN.{length};
 ghost use Rattle.definitions.specs.Limits.{machines, nodes, commands, bookLength, sheetLength};
-ghost use Rattle.definitions.specs.Tree.{UsedNode, within};
+ghost use Rattle.definitions.specs.Tree.{UsedNode};
 ghost use Rattle.definitions.specs.Book.{treeOf, WellFormed};
 ghost use Rattle.definitions.specs.Stream.{Edit};
 ghost use Rattle.definitions.specs.Edit.{heldWithin, withTransition};
@@ -14,28 +14,6 @@ ghost use Rattle.book.specs.Chosen.{chosen};
 ghost use Rattle.clearing.specs.Gone.{Sized};
 ghost use Rattle.editing.specs.Edited.{Ready, Edited};
 ghost use Rattle.removing.specs.Within.{Listed, notInto, withoutIntoAt, goesWith, OwnerInRange, Linked, RemovedAt, NodesRemoved};
-
-// 1 where node d is node n or below it, else 0.
-fn within(book: &[u32], n: u32, d: u32) -> u32
-    requires { ⌜ WellFormed (now book) × (d < nodes) ⌝ }
-    ensures { λ r. ⌜ eqb r 1 ≡ within (treeOf (now (book .entry))) n d ⌝ }
-{
-    let mut k = d;
-    loop {
-        if k == n {
-            return 1;
-        }
-        let m = book::owner(book, k);
-        if m == book::ABSENT {
-            return 0;
-        }
-        let h = book::holder(book, m);
-        if h == book::ABSENT {
-            return 0;
-        }
-        k = h;
-    }
-}
 
 // 1 where node n or a node below it holds machine m, else 0.
 fn held_within(book: &[u32], n: u32, m: u32) -> u32
@@ -46,7 +24,7 @@ fn held_within(book: &[u32], n: u32, m: u32) -> u32
     if h == book::ABSENT {
         return 0;
     }
-    within(book, n, h)
+    stepping::within(book, n, h)
 }
 
 // A list with 1 at each machine that node n or a node below it holds.

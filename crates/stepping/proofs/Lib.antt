@@ -3,3 +3,4 @@ pub mod Says
 pub mod States
 pub mod Upward
 pub mod Climbing
+pub mod Inside

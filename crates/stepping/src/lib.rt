@@ -1,9 +1,10 @@
 // One command at a state of a well-formed book (document 01, "The tree and its step").
 ghost use mathlib.Core.Path.{_≡_};
+ghost use mathlib.Core.Bool.{cond};
 ghost use mathlib.Core.Option.{none, some};
 ghost use Prim.Native.Nat.{_<_};
-ghost use Rattle.definitions.specs.Limits.{commands};
-ghost use Rattle.definitions.specs.Tree.{UsedNode, level};
+ghost use Rattle.definitions.specs.Limits.{nodes, commands};
+ghost use Rattle.definitions.specs.Tree.{UsedNode, level, within};
 ghost use Rattle.definitions.specs.Book.{treeOf, WellFormed};
 ghost use Rattle.definitions.specs.Step.{enter, climb};
 ghost use Rattle.definitions.specs.Calls.{StepSays};
@@ -76,8 +77,30 @@ pub fn level(book: &[u32], n: u32) -> u32
     }
 }
 
-// Step at a state of a book that is known to be well formed, where 17 alone is left to refuse. Step ends in it, and Choose calls it for
-// each command.
+// 1 where node d is node n or below it, else 0.
+pub fn within(book: &[u32], n: u32, d: u32) -> u32
+    requires { ⌜ WellFormed (now book) × (d < nodes) ⌝ }
+    ensures { λ r. ⌜ r ≡ cond (within (treeOf (now (book .entry))) n d) 1 0 ⌝ }
+{
+    let mut k = d;
+    loop {
+        if k == n {
+            return 1;
+        }
+        let m = book::owner(book, k);
+        if m == book::ABSENT {
+            return 0;
+        }
+        let h = book::holder(book, m);
+        if h == book::ABSENT {
+            return 0;
+        }
+        k = h;
+    }
+}
+
+// Step at a state of a book that is known to be well formed, where 17 alone is left to refuse. Step ends in it, and Choose and a walker call it
+// for each command.
 pub fn step_from(book: &[u32], s: u32, x: u32) -> StepAnswer
     requires { ⌜ WellFormed (now book) × UsedNode (treeOf (now book)) s × (treeOf (now book) .below s ≡ none) × (x < commands) ⌝ }
     ensures { λ r. ⌜ StepSays (now (book .entry)) s x (answerOf r) ⌝ }

@@ -1,4 +1,4 @@
--- `removing::within` meets its contract: to be within n is the same of the node in hand and of d, and each turn goes one level up.
+-- `stepping::within` meets its contract: to be within n is the same of the node in hand and of d, and each turn goes one level up.
 -- Assumes nothing.
 use mathlib.Core.Path.{_≡_, refl}
 use Prim.Native.Nat.{_<_}
@@ -6,9 +6,9 @@ use denote.Ref.{now}
 use Rattle.definitions.specs.Limits.{nodes}
 use Rattle.definitions.specs.Tree.{level, within}
 use Rattle.definitions.specs.Book.{treeOf}
-use Rattle.removing.proofs.Lists.{met, unused-told, owner-told, top-told, Up, up-told}
-use Rattle.removing.proofs.within.Statement.{statement}
-use Rattle.removing.proofs.within.Tie as tie
+use Rattle.stepping.proofs.Inside.{met, unused-told, owner-told, top-told, Up, up-told}
+use Rattle.stepping.proofs.within.Statement.{statement}
+use Rattle.stepping.proofs.within.Tie as tie
 
 abbrev Inv-loop : tie.InvT-loop
 Inv-loop book n d k₀ k = (k < nodes) × (within (treeOf book) n d ≡ within (treeOf book) n k)
