@@ -2,7 +2,8 @@
 ** Opens a holding, loads the stream whose hexadecimal text is named on the command line, refreshes it, and prints the cheapest plan
 ** from state 0 to state 2 and from state 2 to state 11, with each state that the station passes and the node and level that acted. Then
 ** it imports a probe's timing of node 1's transition and plans from state 0 to state 2 over it. It holds node 11, plans round it, and
-** releases it. Finally it merges the book with itself, and plans from state 0 to state 2 again and between the same states of the twin.
+** releases it. It lets two walkers go from state 0 with one place inside node 1. Finally it merges the book with itself, and plans from
+** state 0 to state 2 again and between the same states of the twin.
 */
 #include <ctype.h>
 #include <stdio.h>
@@ -83,6 +84,22 @@ static void set_hold(uint32_t node, uint8_t hold) {
   load(bytes, sizeof bytes);
 }
 
+/* Opens two walkers at state 0, of which one may be inside node 1, and gives them some commands. */
+static void let_walkers_go(void) {
+  static const uint32_t commands[][2] = {{0, 0}, {1, 0}, {0, 2}, {0, 1}, {1, 0}};
+  uint32_t walkers[] = {0, 0}, cost, acted;
+  must("walkers", himm_walkers(book, HIMM_BOOK_WORDS, 1, 1, walkers, 2));
+  printf("two walkers at 0, one may be inside node 1\n");
+  for (size_t i = 0; i < sizeof commands / sizeof commands[0]; i++) {
+    uint32_t walker = commands[i][0], command = commands[i][1];
+    uint32_t refusal = himm_walk(book, HIMM_BOOK_WORDS, 1, 1, walkers, 2, walker, command, &cost, &acted);
+    if (refusal != HIMM_NODE_FULL) must("walk", refusal);
+    printf("walker %u by %u: ", (unsigned)walker, (unsigned)command);
+    if (refusal == HIMM_NODE_FULL) printf("stays at %u, the node is full\n", (unsigned)walkers[walker]);
+    else printf("to %u, cost %u, by node %u\n", (unsigned)walkers[walker], (unsigned)cost, (unsigned)acted);
+  }
+}
+
 /* Puts the book merged with itself in its place, and prints the new root and its nodes with the machines that they hold. */
 static void merge_with_itself(void) {
   static uint32_t old[HIMM_BOOK_WORDS];
@@ -113,6 +130,7 @@ int main(int argc, char **argv) {
   set_hold(11, 1);
   show_plan(0, 2);
   set_hold(11, 0);
+  let_walkers_go();
   merge_with_itself();
   load(refresh, sizeof refresh);
   show_plan(0, 2);

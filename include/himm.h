@@ -56,13 +56,15 @@ extern "C" {
 
 /*
 ** Limits. A machine, a node and a command are numbers from 0, each under its limit; a cost of a transition is at most
-** HIMM_LARGEST_COST. The root is at level 1 and no machine is lower than level HIMM_LEVELS.
+** HIMM_LARGEST_COST. The root is at level 1 and no machine is lower than level HIMM_LEVELS. A call takes at most HIMM_WALKERS walkers, and a
+** limit of at most HIMM_WALKERS.
 */
 #define HIMM_MACHINES 64
 #define HIMM_NODES 256
 #define HIMM_COMMANDS 16
 #define HIMM_LEVELS 8
 #define HIMM_LARGEST_COST 65535
+#define HIMM_WALKERS 8
 
 /*
 ** Sizes: the words of a book and of a sheet, which are exact; the bytes of a plan buffer and of an output that are enough for every
@@ -114,7 +116,8 @@ enum himm_refusal {
   HIMM_FALSE_SHEET = 3,      /* the sheet is not true of the book */
   HIMM_CUT_SHORT = 4,        /* the stream ends inside a command */
   HIMM_UNKNOWN_OPCODE = 5,   /* a byte that is no opcode */
-  HIMM_OUT_OF_RANGE = 6,     /* a machine, node or command that is not under its limit, a hold over 1, or an unknown kind of reading */
+  HIMM_OUT_OF_RANGE = 6,     /* a machine, node or command that is not under its limit, a walker that there is not, a hold over 1, or an
+                                unknown kind of reading */
   HIMM_NOT_IN_USE = 7,       /* a machine or node that is not in use */
   HIMM_IN_USE = 8,           /* a new machine or node that is in use already */
   HIMM_ALREADY_REFINED = 9,  /* refine: the node holds a machine already */
@@ -129,7 +132,9 @@ enum himm_refusal {
   HIMM_NEITHER_ARRIVES = 18, /* choose: neither list arrives */
   HIMM_TOO_FEW_NUMBERS = 19, /* merge: the first book has too few unused numbers */
   HIMM_BAD_TIMING = 20,      /* import: the timing gives no cost from 0 to HIMM_LARGEST_COST */
-  HIMM_HELD_START = 21       /* hold: a start node cannot be held; start: a held node cannot become one */
+  HIMM_HELD_START = 21,      /* hold: a start node cannot be held; start: a held node cannot become one */
+  HIMM_NODE_FULL = 22,       /* walk: the walker would come inside the node, and as many as the limit allows are there */
+  HIMM_TOO_MANY_WALKERS = 23 /* walkers, walk: the limit or the number of walkers is over HIMM_WALKERS, or more than the limit are inside */
 };
 
 /*
@@ -287,6 +292,36 @@ uint32_t himm_merge(const uint32_t *first, size_t first_len, const uint32_t *sec
 */
 uint32_t himm_import(uint32_t node, uint32_t command, uint32_t target, uint32_t kind, float seconds, float dead_time, uint8_t *out,
                      size_t out_len, uint32_t *length);
+
+/*
+** himm_walkers: open up to HIMM_WALKERS walkers on one book, each at a state. As many of them as the limit, and no more, may be inside one
+** node, the limited one: at it or below it. The call judges what it is handed, and writes nothing.
+** himm_walk: one command for one walker. The walker goes where himm_step leads from its state, at the same cost and with the same acting
+** node, unless it would come from outside the limited node to inside while as many as the limit are there. A walker that is inside may move
+** on inside or leave, also at the limit. A walker that is refused stays where it is, and the others do so in any case.
+**
+** Where himm_walkers returned 0 and himm_walk alone changes the walkers from then on, with the same book, node and limit, there are never
+** more walkers inside the limited node than the limit, whatever the commands and their answers, and himm_walkers would return 0 again at any
+** time. No opening is trusted, though: himm_walk judges anew what it is handed, and refuses what an opening would refuse.
+**
+**   book, book_len        read only; no sheet is needed
+**   node                  the node that is limited, plain or refined
+**   limit                 how many walkers may be inside it, from 0 to HIMM_WALKERS
+**   walkers, walkers_len  one word for each walker, its state, for at most HIMM_WALKERS walkers or for none; several may be at one state.
+**                         himm_walkers only reads them. himm_walk stores the state that the walker comes to in the walker's own word
+**   walker, command       the walker, by the place of its word from 0, and what it is told
+**   cost                  the cost of the transition used
+**   acted                 the node whose transition was used: the walker's state before the command, or a node that holds it
+**
+** Both refuse: HIMM_WRONG_LENGTH (the book), HIMM_TORN_BOOK, HIMM_TOO_MANY_WALKERS (limit or walkers_len over HIMM_WALKERS),
+** HIMM_OUT_OF_RANGE (the node or a walker's state), HIMM_NOT_IN_USE (likewise), HIMM_NOT_PLAIN (a walker's state; the node may be refined),
+** HIMM_TOO_MANY_WALKERS (more walkers are inside the node than the limit).
+** himm_walk then, after all of these: HIMM_OUT_OF_RANGE (walker is not under walkers_len), HIMM_OUT_OF_RANGE (the command), HIMM_STOPS, HIMM_NODE_FULL (the
+** walker is outside the node, the state that it would come to is inside, and as many walkers as the limit are inside).
+*/
+uint32_t himm_walkers(const uint32_t *book, size_t book_len, uint32_t node, uint32_t limit, const uint32_t *walkers, size_t walkers_len);
+uint32_t himm_walk(const uint32_t *book, size_t book_len, uint32_t node, uint32_t limit, uint32_t *walkers, size_t walkers_len,
+                   uint32_t walker, uint32_t command, uint32_t *cost, uint32_t *acted);
 
 #ifdef __cplusplus
 }

@@ -1,10 +1,11 @@
 //! Two libraries on the same books: before and after a change, row by row.
 
-use crate::library::Library;
+use crate::library::{Library, Moved};
 use crate::rows::Agreement;
 use crate::side::{half_full, hard, kinds, logged, Side, ROUNDS};
 use crate::timing::{rounds, Times};
 use himm_model::book::hold_at;
+use himm_model::{ABSENT, WALKERS};
 
 /// A row: its name, the call that it needs, and its work of one round, which gives an answer that both libraries must agree on.
 type Row = (&'static str, &'static str, fn(&Side, usize, &mut Times) -> Vec<u32>);
@@ -18,7 +19,7 @@ const BARE: [Row; 3] = [
 
 /// The rows of each kind of book. Steps are compared by state and cost, since a library before version 2 does not name the node. No node is
 /// held, and books are compared up to the holds, since a library before version 3 has none.
-const ROWS: [Row; 13] = [
+const ROWS: [Row; 15] = [
     ("plan", "himm_plan", |side, i, t| side.plan(i, t).into_iter().collect()),
     ("checks of book and sheet", "himm_exit", |side, i, t| none(side.at(i).check_both(t))),
     ("checks of the book", "himm_step", |side, i, t| none(side.at(i).check_book(t))),
@@ -32,6 +33,8 @@ const ROWS: [Row; 13] = [
     ("one edit and refresh", "himm_load", |side, i, t| front(side.edit_and_refresh(i, t))),
     ("one edit and refresh, all stale", "himm_load", |side, i, t| front(side.edit_and_refresh_all(i, t))),
     ("write", "himm_write", |side, i, t| vec![side.write(i, t) as u32]),
+    ("open 8 walkers", "himm_walkers", |side, i, t| vec![side.open_walkers(i, t)]),
+    ("command to one of 8 walkers", "himm_walk", |side, i, t| walked(side.walk(i, t))),
 ];
 
 /// The rows of two half-full books.
@@ -49,6 +52,12 @@ fn front(mut book: Vec<u32>) -> Vec<u32> {
 /// The answer of work that gives bytes.
 fn words(bytes: Vec<u8>) -> Vec<u32> {
     bytes.into_iter().map(u32::from).collect()
+}
+
+/// The answer of a walker command: the refusal, or cost and node, and the walkers' states.
+fn walked((answer, states): (Result<Moved, u32>, [u32; WALKERS])) -> Vec<u32> {
+    let given = answer.map_or_else(|refusal| vec![refusal], |to| vec![to.cost, to.node.unwrap_or(ABSENT)]);
+    [&given[..], &states].concat()
 }
 
 /// The answer of work that gives none.

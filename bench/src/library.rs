@@ -28,6 +28,8 @@ type Write = unsafe extern "C" fn(*const u32, usize, *mut u8, usize, *mut u32) -
 type Choose = unsafe extern "C" fn(*const u32, usize, u32, u32, *const u8, usize, *const u8, usize, *mut u32, *mut u32) -> u32;
 type Merge = unsafe extern "C" fn(*const u32, usize, *const u32, usize, *mut u32, usize, *mut u32, usize) -> u32;
 type Importing = unsafe extern "C" fn(u32, u32, u32, u32, f32, f32, *mut u8, usize, *mut u32) -> u32;
+type Walkers = unsafe extern "C" fn(*const u32, usize, u32, u32, *const u32, usize) -> u32;
+type Walk = unsafe extern "C" fn(*const u32, usize, u32, u32, *mut u32, usize, u32, u32, *mut u32, *mut u32) -> u32;
 
 /// The calls of a library, `None` where it lacks one, and the lengths of its books and sheets.
 pub struct Library {
@@ -42,6 +44,8 @@ pub struct Library {
     choose: Option<Choose>,
     merge: Option<Merge>,
     import: Option<Importing>,
+    walkers: Option<Walkers>,
+    walk: Option<Walk>,
     pub book_words: usize,
     pub sheet_words: usize,
 }
@@ -107,6 +111,8 @@ impl Library {
             choose: opened.call("himm_choose"),
             merge: opened.call("himm_merge"),
             import: opened.call("himm_import"),
+            walkers: opened.call("himm_walkers"),
+            walk: opened.call("himm_walk"),
             opened,
             book_words,
             sheet_words,
@@ -189,6 +195,20 @@ impl Library {
         let (at, room) = (out.as_mut_ptr(), out.len());
         let number = unsafe { call(lent.node, lent.command, lent.target, lent.kind, seconds, dead_time, at, room, &mut length) };
         answer(number, length as usize)
+    }
+
+    /// Walkers opened at their states, with a limit on a node.
+    pub fn walkers(&self, book: &[u32], (node, limit): (u32, u32), walkers: &[u32]) -> Result<(), u32> {
+        let call = self.walkers.expect("himm_walkers");
+        answer(unsafe { call(book.as_ptr(), book.len(), node, limit, walkers.as_ptr(), walkers.len()) }, ())
+    }
+
+    /// A walker's command: its cost and the node; the walker's state goes to its place among the states.
+    pub fn walk(&self, book: &[u32], (node, limit): (u32, u32), states: &mut [u32], walker: u32, command: u32) -> Result<(u32, u32), u32> {
+        let (call, mut cost, mut acted) = (self.walk.expect("himm_walk"), 0, 0);
+        let (b, s) = ((book.as_ptr(), book.len()), (states.as_mut_ptr(), states.len()));
+        let number = unsafe { call(b.0, b.1, node, limit, s.0, s.1, walker, command, &mut cost, &mut acted) };
+        answer(number, (cost, acted))
     }
 }
 

@@ -2,7 +2,7 @@
 
 use crate::holding::Holding;
 use crate::library::Moved;
-use crate::side::{hard, logged, Choice, Side, BOOKS, IMPORT_BYTES, ROUNDS, TIMINGS};
+use crate::side::{hard, logged, Choice, Side, Walk, BOOKS, IMPORT_BYTES, ROUNDS, TIMINGS};
 use crate::timing::{medians, print_row, rounds, timed, Times};
 use himm_model::flat::Flat;
 use himm_model::import::Import;
@@ -52,6 +52,7 @@ pub fn all(name: &str, side: &Side, agreement: &mut Agreement) {
     refreshes(side, agreement);
     writes(side, agreement);
     choices(side, agreement);
+    walks(side, agreement);
 }
 
 /// The rows that are also measured with one book again and again.
@@ -147,6 +148,26 @@ fn choices(side: &Side, agreement: &mut Agreement) {
     };
     let ours = |i: usize, times: &mut _| side.choose_long(i, times);
     rounds(ROUNDS / 4, ours, theirs, |a, b| agreement.of(a, b)).print("choose, long lists", "the plain model's choose");
+}
+
+/// Eight walkers opened, and a command to one of them, against the model, which decodes the book first, within the clock, where ours checks
+/// it.
+fn walks(side: &Side, agreement: &mut Agreement) {
+    let open = |i: usize, times: &mut _| side.open_walkers(i, times);
+    let opened = |i: usize, times: &mut _| {
+        let Walk { limited: (node, limit), states, .. } = &side.walks[i];
+        let decoded = || calls::read_book(&side.at(i).book);
+        timed(times, || decoded().and_then(|tree| calls::walkers(&tree, *node, *limit, states))).err().unwrap_or(0)
+    };
+    rounds(ROUNDS, open, opened, |a, b| agreement.of(a, b)).print("open 8 walkers", "the plain model's opening");
+    let command = |i: usize, times: &mut _| side.walk(i, times);
+    let walked = |i: usize, times: &mut _| {
+        let Walk { limited: (node, limit), mut states, walker, command } = side.walks[i];
+        let decoded = || calls::read_book(&side.at(i).book);
+        let to = timed(times, || decoded().and_then(|tree| calls::walk(&tree, node, limit, &mut states, walker, command)));
+        (to.map(|to| Moved { state: to.state as u32, cost: to.cost, node: Some(to.node as u32) }), states)
+    };
+    rounds(ROUNDS, command, walked, |a, b| agreement.of(a, b)).print("command to one of 8 walkers", "the plain model's command");
 }
 
 /// A merge of two books against writing and loading them both. The merged tree is the model's, and the loaded ones are those written.

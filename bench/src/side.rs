@@ -7,7 +7,7 @@ use crate::timing::{timed, Times};
 use himm_model::flat::Flat;
 use himm_model::import::Import;
 use himm_model::random::{self, Growth, Random, Shape};
-use himm_model::{book, COMMANDS, LIST_COMMANDS, MACHINES, NODES, STREAM_BYTES};
+use himm_model::{book, walk, COMMANDS, LIST_COMMANDS, MACHINES, NODES, STREAM_BYTES, WALKERS};
 
 /// How often each piece of work is timed.
 pub const ROUNDS: usize = 400;
@@ -35,6 +35,7 @@ pub struct Side {
     pub pairs: Vec<(u32, u32)>,
     pub edits: Vec<Vec<u8>>,
     pub places: Vec<(u32, u32)>,
+    pub walks: Vec<Walk>,
     lists: Vec<[Vec<u8>; 2]>,
     long: Vec<Choice>,
 }
@@ -43,6 +44,14 @@ pub struct Side {
 pub struct Choice {
     pub pair: (u32, u32),
     pub lists: [Vec<u8>; 2],
+}
+
+/// A command for one of as many walkers as there may be: the node that is limited and its limit, the states, the walker and what it is told.
+pub struct Walk {
+    pub limited: (u32, u32),
+    pub states: [u32; WALKERS],
+    pub walker: u32,
+    pub command: u32,
 }
 
 /// The kinds of books that are measured.
@@ -83,6 +92,7 @@ impl Side {
             pairs: (0..ROUNDS).map(|round| pairs[round % pairs.len()][round]).collect(),
             edits: (0..ROUNDS).map(|round| edits[round % edits.len()][round].clone()).collect(),
             places: (0..ROUNDS).map(|round| place(in_turn(round), round)).collect(),
+            walks: (0..ROUNDS).map(|round| Walk::on(in_turn(round), round)).collect(),
             lists: (0..ROUNDS).map(|round| [2 * round, 2 * round + 1].map(list)).collect(),
             long: books.iter().map(Choice::on).collect(),
             books,
@@ -130,6 +140,19 @@ impl Side {
     pub fn step(&self, round: usize, times: &mut Times) -> Option<Moved> {
         let (state, command) = self.places[round];
         timed(times, || self.library().step(&self.at(round).book, state, command)).ok()
+    }
+
+    /// The walkers of a round opened; gives 0, since they keep their limit.
+    pub fn open_walkers(&self, round: usize, times: &mut Times) -> u32 {
+        let Walk { limited, states, .. } = &self.walks[round];
+        timed(times, || self.library().walkers(&self.at(round).book, *limited, states)).err().unwrap_or(0)
+    }
+
+    /// The command for one of these walkers, the one at the place of the round, and the states after it; they are copied outside the clock.
+    pub fn walk(&self, round: usize, times: &mut Times) -> (Result<Moved, u32>, [u32; WALKERS]) {
+        let Walk { limited, mut states, walker, command } = self.walks[round];
+        let given = timed(times, || self.library().walk(&self.at(round).book, limited, &mut states, walker, command));
+        (given.map(|(cost, node)| Moved { state: states[walker as usize], cost, node: Some(node) }), states)
     }
 
     /// The root's exit cost for the command of the round.
@@ -246,6 +269,19 @@ impl Choice {
         let lists = [0, 1].map(|_| long_list(&flat, &moves, pair, &mut random));
         assert!(lists.iter().all(|list| list.len() + PLAN_BYTES >= LIST_COMMANDS), "a list that is cut short");
         Choice { pair, lists }
+    }
+}
+
+impl Walk {
+    /// The walker of the place of a round, and the others at random states; as many may be inside some node as are there, or one more.
+    fn on(holding: &Holding, round: usize) -> Walk {
+        let (mut random, all, (state, command)) = (Random::new(round as u64), holding.tree.states(), place(holding, round));
+        let (mut states, walker) = ([0; WALKERS].map(|_| random.pick(&all) as u32), random.below(WALKERS));
+        states[walker] = state;
+        let nodes: Vec<usize> = (0..NODES).filter(|&n| holding.tree.nodes[n].is_some()).collect();
+        let node = random.pick(&nodes);
+        let limit = (walk::inside(&holding.tree, node, &states) + random.below(2)).min(WALKERS);
+        Walk { limited: (node as u32, limit as u32), states, walker: walker as u32, command }
     }
 }
 

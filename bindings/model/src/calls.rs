@@ -5,7 +5,7 @@ use crate::import::{self, Import, Reading};
 use crate::sheet::{self, is_stale, Exits};
 use crate::stream::{Command, Row, Station};
 use crate::tree::{Moved, Tree};
-use crate::{book, choose, merge, write, BOOK_WORDS, COMMANDS, MACHINES, NODES, SHEET_WORDS};
+use crate::{book, choose, merge, walk, write, BOOK_WORDS, COMMANDS, MACHINES, NODES, SHEET_WORDS, WALKERS};
 
 /// Refuses where the test does not hold.
 fn ask(number: u32, holds: bool) -> Result<(), u32> {
@@ -103,4 +103,26 @@ pub fn import(lent: &Import, room: usize) -> Result<Vec<u8>, u32> {
     let bytes = edit.bytes();
     ask(15, room >= bytes.len())?;
     Ok(bytes)
+}
+
+/// The opening of walkers at some states, of which at most so many may be inside a node: refuses 23 (limit or number of walkers), 6, 7, 14,
+/// 23 (too many inside).
+pub fn walkers(tree: &Tree, node: u32, limit: u32, walkers: &[u32]) -> Result<(), u32> {
+    ask(23, limit as usize <= WALKERS && walkers.len() <= WALKERS)?;
+    let named = || walkers.iter().chain([&node]).map(|&n| n as usize);
+    ask(6, named().all(|n| n < NODES))?;
+    ask(7, named().all(|n| tree.nodes[n].is_some()))?;
+    ask(14, walkers.iter().all(|&n| tree.is_state(n as usize)))?;
+    ask(23, walk::inside(tree, node as usize, walkers) <= limit as usize)
+}
+
+/// A walker command, which changes that walker's state alone: refuses what the opening refuses, 6 (no such walker), Step's 6 and 17, 22.
+pub fn walk(tree: &Tree, node: u32, limit: u32, states: &mut [u32], walker: u32, command: u32) -> Result<Moved, u32> {
+    walkers(tree, node, limit, states)?;
+    let record = *states.get(walker as usize).ok_or(6u32)?;
+    let moved = step(tree, record, command)?;
+    let full = walk::inside(tree, node as usize, states) >= limit as usize;
+    ask(22, !(full && walk::comes_inside(tree, node as usize, record as usize, moved.state)))?;
+    states[walker as usize] = moved.state as u32;
+    Ok(moved)
 }

@@ -12,12 +12,14 @@ pub mod random;
 pub mod sheet;
 pub mod stream;
 pub mod tree;
+pub mod walk;
 pub mod write;
 
 pub const MACHINES: usize = 64;
 pub const NODES: usize = 256;
 pub const COMMANDS: usize = 16;
 pub const LEVELS: usize = 8;
+pub const WALKERS: usize = 8;
 pub const BOOK_WORDS: usize = 4993;
 pub const SHEET_WORDS: usize = 2880;
 pub const STREAM_BYTES: usize = 34812;

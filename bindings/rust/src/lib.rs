@@ -28,6 +28,9 @@ pub const NODES: usize = 256;
 pub const COMMANDS: usize = 16;
 pub const LEVELS: usize = 8;
 
+/// The most walkers of one call, and the highest limit.
+pub const WALKERS: usize = 8;
+
 /// The words of a book and of a sheet, which are exact.
 pub const BOOK_WORDS: usize = 4993;
 pub const SHEET_WORDS: usize = 2880;
@@ -236,4 +239,31 @@ pub fn import(node: u32, command: u32, target: u32, timing: Timing, out: &mut [u
     let (dead_time, room, mut length) = (timing.dead_time, out.len(), 0);
     let number = unsafe { raw::himm_import(node, command, target, kind, seconds, dead_time, out.as_mut_ptr(), room, &mut length) };
     Refusal::check(number).map(|()| &out[..length as usize])
+}
+
+/// Opens up to [`WALKERS`] walkers, each at its state: at most as many as the limit may be inside the node, at it or below it. Nothing is
+/// written.
+pub fn walkers(book: &[u32], node: u32, limit: u32, walkers: &[u32]) -> Result<(), Refusal> {
+    Refusal::check(unsafe { raw::himm_walkers(book.as_ptr(), book.len(), node, limit, walkers.as_ptr(), walkers.len()) })
+}
+
+/// One command for one of these walkers: it goes where [`step`] leads from its state, unless it would come inside the node while as many as
+/// the limit are there. Its state is stored among the walkers' and given, with the cost and the node whose transition was used.
+///
+/// ```
+/// use himm::{Moved, Refusal};
+/// let (mut book, mut sheet) = (vec![0; himm::BOOK_WORDS], vec![0; himm::SHEET_WORDS]);
+/// himm::open_ladder(&mut book, &mut sheet)?;
+/// // Node 0 of the ladder holds a machine, which is entered at its state 4. One walker may be inside.
+/// let (node, limit, mut walkers) = (0, 1, [1, 1]);
+/// himm::walkers(&book, node, limit, &walkers)?;
+/// assert_eq!(himm::walk(&book, node, limit, &mut walkers, 0, 0), Ok(Moved { state: 4, cost: 1, node: 1 }));
+/// assert_eq!(himm::walk(&book, node, limit, &mut walkers, 1, 0), Err(Refusal::NodeFull));
+/// assert_eq!(walkers, [4, 1]);
+/// # Ok::<(), himm::Refusal>(())
+/// ```
+pub fn walk(book: &[u32], node: u32, limit: u32, walkers: &mut [u32], walker: u32, command: u32) -> Result<Moved, Refusal> {
+    let (states, count, mut cost, mut acted) = (walkers.as_mut_ptr(), walkers.len(), 0, 0);
+    let number = unsafe { raw::himm_walk(book.as_ptr(), book.len(), node, limit, states, count, walker, command, &mut cost, &mut acted) };
+    Refusal::check(number).map(|()| Moved { state: walkers[walker as usize], cost, node: acted })
 }

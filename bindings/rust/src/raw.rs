@@ -73,4 +73,17 @@ extern "C" {
         out_len: usize,
         length: *mut u32,
     ) -> u32;
+    pub fn himm_walkers(book: *const u32, book_len: usize, node: u32, limit: u32, walkers: *const u32, walkers_len: usize) -> u32;
+    pub fn himm_walk(
+        book: *const u32,
+        book_len: usize,
+        node: u32,
+        limit: u32,
+        walkers: *mut u32,
+        walkers_len: usize,
+        walker: u32,
+        command: u32,
+        cost: *mut u32,
+        acted: *mut u32,
+    ) -> u32;
 }

@@ -27,11 +27,13 @@ pub enum Refusal {
     TooFewNumbers = 19,
     BadTiming = 20,
     HeldStart = 21,
+    NodeFull = 22,
+    TooManyWalkers = 23,
 }
 
 impl Refusal {
     /// Every refusal, the one with number k at place k - 1.
-    pub const ALL: [Refusal; 21] = [
+    pub const ALL: [Refusal; 23] = [
         Refusal::WrongLength,
         Refusal::TornBook,
         Refusal::FalseSheet,
@@ -53,9 +55,11 @@ impl Refusal {
         Refusal::TooFewNumbers,
         Refusal::BadTiming,
         Refusal::HeldStart,
+        Refusal::NodeFull,
+        Refusal::TooManyWalkers,
     ];
 
-    /// The refusal of a number 1 to 21.
+    /// The refusal of a number 1 to 23.
     pub fn of(number: u32) -> Option<Refusal> {
         Refusal::ALL.get((number as usize).wrapping_sub(1)).copied()
     }
@@ -65,12 +69,12 @@ impl Refusal {
         self as u32
     }
 
-    /// What a call returned: 0 is no refusal. The library returns no number over 21.
+    /// What a call returned: 0 is no refusal. The library returns no number over 23.
     pub(crate) fn check(number: u32) -> Result<(), Refusal> {
         if number == 0 {
             return Ok(());
         }
-        Err(Refusal::of(number).expect("a refusal's number is 1 to 21"))
+        Err(Refusal::of(number).expect("a refusal's number is 1 to 23"))
     }
 
     fn meaning(self) -> &'static str {
@@ -80,7 +84,7 @@ impl Refusal {
             Refusal::FalseSheet => "the sheet is not true of the book",
             Refusal::CutShort => "the stream ends inside a command",
             Refusal::UnknownOpcode => "a byte that is no opcode",
-            Refusal::OutOfRange => "a machine, node, command or hold out of range",
+            Refusal::OutOfRange => "a machine, node, command, walker or hold out of range",
             Refusal::NotInUse => "a machine or node that is not in use",
             Refusal::InUse => "a new machine or node that is in use already",
             Refusal::AlreadyRefined => "the node is refined already",
@@ -96,6 +100,8 @@ impl Refusal {
             Refusal::TooFewNumbers => "the first book has too few unused numbers",
             Refusal::BadTiming => "the timing gives no cost from 0 to 65,535",
             Refusal::HeldStart => "a start node cannot be held, nor a held node become one",
+            Refusal::NodeFull => "as many walkers as may be are inside the node",
+            Refusal::TooManyWalkers => "a limit or a number of walkers over 8, or more walkers inside than the limit",
         }
     }
 }

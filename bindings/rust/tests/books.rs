@@ -2,11 +2,12 @@
 
 mod common;
 
+use common::walkers::Walkers;
 use common::{nodes_to_try, Holding};
 use himm_model::flat::Flat;
 use himm_model::random::{Costs, Growth, Random, Shape};
 use himm_model::tree::Tree;
-use himm_model::{book, sheet, COMMANDS};
+use himm_model::{book, sheet, COMMANDS, WALKERS};
 
 /// Every call on one holding, plans between at most so many states.
 fn compare(holding: &Holding, random: &mut Random, most: usize) {
@@ -25,6 +26,9 @@ fn compare(holding: &Holding, random: &mut Random, most: usize) {
         let (from, to) = (random.pick(&nodes), random.pick(&nodes));
         let (first, second) = (list(random, &tree), list(random, &tree));
         holding.compare_choice(&view, from, to, &first, &second);
+        let walkers: Vec<u32> = (0..random.below(WALKERS + 2)).map(|_| random.pick(&nodes)).collect();
+        let (limit, walker, command) = (random.below(WALKERS + 2), random.below(WALKERS), random.below(COMMANDS + 1));
+        Walkers::at(from, limit as u32, &walkers).both(&holding.book, &view.book, walker as u32, command as u32);
     }
 }
 

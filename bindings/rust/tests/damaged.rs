@@ -3,6 +3,7 @@
 mod common;
 
 use common::damage::{copy_a_field, put_over, words};
+use common::walkers::Walkers;
 use common::{Holding, View};
 use himm_model::book::{machine_at, node_at};
 use himm_model::random::{Costs, Random, Shape};
@@ -19,6 +20,7 @@ fn compare(holding: &Holding, view: &View, random: &mut Random) {
     holding.compare_plan(view, from, to, himm::PLAN_BYTES);
     holding.compare_choice(view, from, to, &[0, 1, 2], &[1]);
     holding.clone().load(&[himm::REFRESH]);
+    Walkers::at(to, 1, &[from]).both(&holding.book, &view.book, 0, command);
 }
 
 fn random_holding(random: &mut Random) -> Holding {

@@ -30,6 +30,7 @@ fn limits_and_sizes() {
         ("HIMM_NODES", himm::NODES),
         ("HIMM_COMMANDS", himm::COMMANDS),
         ("HIMM_LEVELS", himm::LEVELS),
+        ("HIMM_WALKERS", himm::WALKERS),
         ("HIMM_BOOK_WORDS", himm::BOOK_WORDS),
         ("HIMM_SHEET_WORDS", himm::SHEET_WORDS),
         ("HIMM_PLAN_BYTES", himm::PLAN_BYTES),

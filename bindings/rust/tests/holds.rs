@@ -2,6 +2,7 @@
 
 mod common;
 
+use common::walkers::Walkers;
 use common::{hex, hold, mast, plan, Holding, View, MAST};
 use himm::{Chosen, Moved, Refusal, Which};
 use himm_model::book::{hold_at, machine_at, node_at};
@@ -252,6 +253,7 @@ fn each_call(holding: &Holding, view: &View) {
     holding.compare_write(view);
     holding.compare_choice(view, 0, 2, &[0, 2, 1], &[2]);
     holding.clone().load(&[himm::REFRESH]);
+    Walkers::at(1, 1, &[0, 10]).both(&holding.book, &view.book, 0, 2);
 }
 
 /// Each hold of the mast book as another word: over 1 it is torn, and so is 1 at a start or at a node that is not in use.

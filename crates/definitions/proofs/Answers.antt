@@ -3,7 +3,7 @@ use mathlib.Core.Path.{_≡_, refl, sym, ap, ap₂, _∙_}
 use mathlib.Core.Logic.{_⊎_, inl, inr, ⊎-elim}
 use mathlib.Core.Bool.{Bool, true, not, _&&_}
 use mathlib.Core.Option.{Option, none, some}
-use mathlib.Core.List.{List, [], _∷_}
+use mathlib.Core.List.{List, [], _∷_, _++_}
 use Prim.Native.Nat.{ℕ, suc, _-_, _≤_, _<_}
 use native.Mathlib.Omega.{arith}
 use lib.Dec.{eqb}
@@ -72,20 +72,58 @@ in-order-any [] f g done = g done
 in-order-any (refuse k met passed ∷ rs) f g (inl (holds, said)) = f k said
 in-order-any (refuse k met passed ∷ rs) f g (inr (fails, rest)) = in-order-any rs f g rest
 
+-- the same with each refusal's other side where the call is done
+pub in-order-either : (rs : List Refusal) {R : ℕ → Type 0} {D X : Type 0} → ((k : ℕ) → R k → X) → (Passed rs → D → X) → InOrder rs R D → X
+in-order-either [] f g done = g tt done
+in-order-either (refuse k met passed ∷ rs) f g (inl (holds, said)) = f k said
+in-order-either (refuse k met passed ∷ rs) f g (inr (fails, rest)) = in-order-either rs f (λ others. g (fails, others)) rest
+
+-- Refusals and then others: where the first are passed only the others are left, and the others are all; where nothing is left the call is done.
+-- What comes of the first, and of the others where they are passed, comes of both
+module _ (R : ℕ → Type 0) (D : Type 0) where
+  pub in-order-past : (rs ss : List Refusal) → Exclusive rs → Passed rs → InOrder (rs ++ ss) R D → InOrder ss R D
+  in-order-past [] ss apart all done = done
+  in-order-past (refuse k met passed ∷ rs) ss apart all (inl (holds, said)) = absurd (apart .0 holds (all .0))
+  in-order-past (refuse k met passed ∷ rs) ss apart all (inr (fails, rest)) = in-order-past rs ss (apart .1) (all .1) rest
+
+  pub in-order-after : (rs ss : List Refusal) → Passed rs → InOrder ss R D → InOrder (rs ++ ss) R D
+  in-order-after [] ss all rest = rest
+  in-order-after (refuse k met passed ∷ rs) ss all rest = inr (all .0, in-order-after rs ss (all .1) rest)
+
+  pub in-order-all : (rs : List Refusal) → Passed rs → D → InOrder rs R D
+  in-order-all [] all done = done
+  in-order-all (refuse k met passed ∷ rs) all done = inr (all .0, in-order-all rs (all .1) done)
+
+  pub in-order-both : (Q : ℕ → Type 0) (E : Type 0) (rs ss : List Refusal) → ((k : ℕ) → Q k → R k) → (E → InOrder ss R D) → InOrder rs Q E
+      → InOrder (rs ++ ss) R D
+  in-order-both Q E [] ss f g done = g done
+  in-order-both Q E (refuse k met passed ∷ rs) ss f g (inl (holds, said)) = inl (holds, f k said)
+  in-order-both Q E (refuse k met passed ∷ rs) ss f g (inr (fails, rest)) = inr (fails, in-order-both Q E rs ss f g rest)
+
 -- whether no refusal has the number 0
 abbrev pub numbered : List Refusal → Bool
 numbered [] = true
 numbered (refuse k met passed ∷ rest) = not (eqb k 0) && numbered rest
 
+-- then no number that is answered is 0
+pub in-order-nonzero : (R : ℕ → Type 0) (D : Type 0) (rs : List Refusal) → numbered rs ≡ true → InOrder rs R D → InOrder rs (λ k. (k ≡ 0 → ⊥) × R k) D
+in-order-nonzero R D [] nonzero done = done
+in-order-nonzero R D (refuse k met passed ∷ rs) nonzero (inl (holds, said)) =
+    inl (holds, (eqb-false k 0 (not-true (eqb k 0) (and-true (not (eqb k 0)) (numbered rs) nonzero .0)), said))
+in-order-nonzero R D (refuse k met passed ∷ rs) nonzero (inr (fails, rest)) =
+    inr (fails, in-order-nonzero R D rs (and-true (not (eqb k 0)) (numbered rs) nonzero .1) rest)
+
 -- where no number but 0 is answered each refusal is passed and the call is done
 pub in-order-done : (rs : List Refusal) → numbered rs ≡ true → {R : ℕ → Type 0} {D : Type 0} → ((k : ℕ) → (k ≡ 0 → ⊥) → R k → ⊥)
     → InOrder rs R D → Passed rs × D
-in-order-done [] nonzero never done = (tt, done)
-in-order-done (refuse k met passed ∷ rs) nonzero never (inl (holds, said)) =
-    absurd (never k (eqb-false k 0 (not-true (eqb k 0) (and-true (not (eqb k 0)) (numbered rs) nonzero .0))) said)
-in-order-done (refuse k met passed ∷ rs) nonzero never (inr (fails, rest)) =
-    let (others, done) = in-order-done rs (and-true (not (eqb k 0)) (numbered rs) nonzero .1) never rest in
-    ((fails, others), done)
+in-order-done rs nonzero {R} {D} never says =
+    in-order-either rs {R = λ k. (k ≡ 0 → ⊥) × R k} {D = D} (λ k said. absurd (never k (said .0) (said .1))) (λ others done. (others, done))
+    (in-order-nonzero R D rs nonzero says)
+
+-- refusals and then others exclude their other sides where both do
+pub exclusive-both : (rs ss : List Refusal) → Exclusive rs → Exclusive ss → Exclusive (rs ++ ss)
+exclusive-both [] ss one two = two
+exclusive-both (refuse k met passed ∷ rs) ss one two = (one .0, exclusive-both rs ss (one .1) two)
 
 -- two outcomes on one input: both are refused with the same number, or both are done
 pub data Alike (R S : ℕ → Type 0) (D E : Type 0) : Type 0 where
@@ -289,15 +327,17 @@ exit-one book sheet m x {answer} {other} one two =
     (λ i a b. a ∙ sym b) (λ (c, least, a) (d, too, b). a ∙ ap (λ (k : ℕ). gives (k ∷ [])) (least-same least too) ∙ sym b)
 
 -- Step's answer
+pub given-one : (t : Tree) (s x : ℕ) {answer other : Answer} → GivesStep t s x answer → GivesStep t s x other → answer ≡ other
+given-one t s x (c, moved, n, acts, a) (d, too, m, as-well, b) =
+    a ∙ ap₂ (λ (k : Arrival) (j : ℕ). gives (k .node ∷ k .cost ∷ j ∷ [])) (some-same moved too) (some-same acts as-well) ∙ sym b
+
 pub step-one : (book : List ℕ) (s x : ℕ) {answer other : Answer} → StepSays book s x answer → StepSays book s x other → answer ≡ other
 step-one book s x {answer} {other} one two =
     let rest = stepRefusals (treeOf book) s x in
     both-ways
     (one-outcome (bookRefusals book rest) (book-exclusive book rest (step-exclusive (treeOf book) s x)) {R = Refuses answer} {S = Refuses other}
     one two)
-    (λ i a b. a ∙ sym b)
-    (λ (c, moved, n, acts, a) (d, too, m, as-well, b).
-    a ∙ ap₂ (λ (k : Arrival) (j : ℕ). gives (k .node ∷ k .cost ∷ j ∷ [])) (some-same moved too) (some-same acts as-well) ∙ sym b)
+    (λ i a b. a ∙ sym b) (given-one (treeOf book) s x)
 
 -- Plan's number, and the cost that it gives; which of the cheapest lists is given, and so how many commands, is free
 pub data SamePlan (answer other : Answer) : Type 0 where

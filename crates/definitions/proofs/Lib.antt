@@ -23,3 +23,4 @@ pub mod Answers
 pub mod Acting
 pub mod Imports
 pub mod Merges
+pub mod Walks

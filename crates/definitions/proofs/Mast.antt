@@ -1,33 +1,34 @@
--- The mast book of document 01: its starred examples, by computing with the definitions; the claims of W-202, W-203 and W-205 on it; and that
+-- The mast book of document 01: its starred examples, by computing with the definitions; the claims of W-202, W-203, W-205 and W-206 on it; and that
 -- an exit may end inside its machine. Assumes nothing.
 use mathlib.Core.Path.{_≡_, refl, _∙_}
 use mathlib.Core.Logic.{inl, inr}
 use mathlib.Core.Bool.{false}
 use mathlib.Core.Option.{Option, none, some}
 use mathlib.Core.List.{List, [], _∷_, _++_}
-use Prim.Native.Nat.{ℕ, zero, suc, _<_}
+use Prim.Native.Nat.{ℕ, zero, suc, _≤_, _<_}
 use native.Mathlib.Omega.{arith}
-use lib.ListN.{getD}
+use lib.ListN.{length, getD, set}
 use lib.IntN.{negsuc}
 use lib.Ieee.{Float, fin, sub}
-use Rattle.definitions.specs.Basics.{iterate, countBelow, anyBelow, All, Distinct}
-use Rattle.definitions.specs.Limits.{commands}
-use Rattle.definitions.specs.Tree.{Tree, Sound, states, above, pathF, path, level}
+use Rattle.definitions.specs.Basics.{iterate, countBelow, anyOf, anyBelow, All, Distinct}
+use Rattle.definitions.specs.Limits.{nodes, commands, mostWalkers}
+use Rattle.definitions.specs.Tree.{Tree, Sound, UsedNode, states, above, pathF, path, level, within}
 use Rattle.definitions.specs.Step.{enterF, enter, counting, leaving, look, climb, stepIn, step, acting, Moves, runBy, passes}
 use Rattle.definitions.specs.Costs.{LeastCost, ExitCost}
-use Rattle.definitions.specs.Book.{under, encode, treeOf}
+use Rattle.definitions.specs.Book.{under, encode, treeOf, WellFormed}
 use Rattle.definitions.specs.Sheet.{Rows, encodeRows}
 use Rattle.definitions.specs.Truth.{nodeExit, move}
 use Rattle.definitions.specs.Stream.{hold, operandLength, decode, readNext}
 use Rattle.definitions.specs.Edit.{firstHolding, refusals, refusal, single, withTransition, edited}
 use Rattle.definitions.specs.Load.{next, loadF, load, expected}
 use Rattle.definitions.specs.Open.{freshTree, fresh, openTree}
-use Rattle.definitions.specs.Answer.{gives, refuses}
-use Rattle.definitions.specs.Calls.{Acts, Plan, StepSays, LoadAnswer, LoadSays}
+use Rattle.definitions.specs.Answer.{Answer, gives, refuses, InOrder}
+use Rattle.definitions.specs.Calls.{Acts, Plan, GivesStep, StepSays, LoadAnswer, LoadSays}
 use Rattle.definitions.specs.Demand.{Bytes}
 use Rattle.definitions.specs.Import.{took, ImportSays, Placed}
+use Rattle.definitions.specs.Walk.{inside, comesInside, handedRefusals, walkRefusals, OpenWalkersSay, WalkSays, AtMostInside}
 use Rattle.definitions.specs.Mast.{mastStream, clearing, mastAfter, mastTree, RefusedWith16, MastExamples}
-use Rattle.definitions.proofs.Options.{none-some}
+use Rattle.definitions.proofs.Options.{none-some, true-false}
 use Rattle.definitions.proofs.Kept.{hold-released, expected-sound}
 use Rattle.definitions.proofs.Opened.{open-sound}
 use Rattle.definitions.proofs.Tests.{allBelow, allUnder, listed, accounted, boundsTest, capped, freshRows, blankMachine, blankNode}
@@ -35,9 +36,10 @@ use Rattle.definitions.proofs.Tests.{namedTest, chainTest, leftTest, en
 use Rattle.definitions.proofs.Tests.{all-under, bound-least, bound-plan, bound-none, step-says}
 use Rattle.definitions.proofs.Tests.{tested-exit, tested-sheet, tested-refused}
 use Rattle.definitions.proofs.Words.{treeOf-encode, encode-well-formed}
-use Rattle.definitions.proofs.Answers.{timed-same}
+use Rattle.definitions.proofs.Answers.{timed-same, Passed, in-order-all, in-order-after}
 use Rattle.definitions.proofs.Acting.{step-acts}
 use Rattle.definitions.proofs.Imports.{import-loads}
+use Rattle.definitions.proofs.Walks.{limit-kept}
 
 -- the stream that gives node 1 a transition to itself for command 2
 unfoldable pub looping : List ℕ
@@ -343,3 +345,86 @@ refused-21 = (refl, refl, refl, refl)
 pub mast-released : edited (edited mastTree (hold 2 1)) (hold 2 0) ≡ mastTree
 unfolding computing
 mast-released = hold-released mastTree 2 sound refl refl .1
+
+-- ---- walkers (document 02, W-206): node 1 holds the states 10 and 11, and from 0 command 0 leads to node 1, at state 10
+
+-- what the opening asks
+mast-judged : (n k : ℕ) (at : List ℕ) → (k ≤ mostWalkers) × (length at ≤ mostWalkers) → All (λ s. s < nodes) (n ∷ at) → All (UsedNode mastTree) (n ∷ at)
+    → All (λ s. mastTree .below s ≡ none) at → {c : ℕ} → inside mastTree n at ≡ c → c ≤ k → Passed (handedRefusals (encode mastTree) n k at)
+mast-judged n k at small range used plain count few =
+    let w : WellFormed (encode mastTree) = encode-well-formed mastTree sound in
+    let same = treeOf-encode mastTree sound in
+    (w .length, (w, (small, (range, (rw same used, (rw same plain, (rw same (rw count few), tt)))))))
+
+-- at most one inside node 1, with walkers at 0, 0 and 2
+none-inside : Passed (handedRefusals (encode mastTree) 1 1 (0 ∷ 0 ∷ 2 ∷ []))
+unfolding computing within anyOf inside
+none-inside =
+    mast-judged 1 1 (0 ∷ 0 ∷ 2 ∷ []) (omega arith, omega arith) (omega arith, (omega arith, (omega arith, (omega arith, tt))))
+    ((0, refl), ((0, refl), ((0, refl), ((0, refl), tt)))) (refl, (refl, (refl, tt))) refl (omega arith)
+
+pub mast-opens : OpenWalkersSay (encode mastTree) 1 1 (0 ∷ 0 ∷ 2 ∷ []) 0
+mast-opens = in-order-all (λ r. 0 ≡ r) (0 ≡ 0) (handedRefusals (encode mastTree) 1 1 (0 ∷ 0 ∷ 2 ∷ [])) none-inside refl
+
+-- what follows for every list of commands, as for this one
+pub mast-kept : AtMostInside (encode mastTree) 1 1 ((0, 0) ∷ (1, 0) ∷ (0, 2) ∷ []) (0 ∷ 0 ∷ 2 ∷ [])
+mast-kept = limit-kept (encode mastTree) 1 1 (0 ∷ 0 ∷ 2 ∷ []) mast-opens ((0, 0) ∷ (1, 0) ∷ (0, 2) ∷ [])
+
+-- what a walker command says, on the tree
+mast-walks : (n k : ℕ) (at : List ℕ) (w x : ℕ) (answer : Answer) (at′ : List ℕ) → Passed (handedRefusals (encode mastTree) n k at)
+    → InOrder (walkRefusals mastTree n k at w x) (λ r. (answer ≡ refuses r) × (at′ ≡ at))
+    (GivesStep mastTree (getD at w 0) x answer × (at′ ≡ set at w (getD (answer .values) 0 0)))
+    → WalkSays (encode mastTree) n k at w x answer at′
+mast-walks n k at w x answer at′ judged rest =
+    in-order-after (λ r. (answer ≡ refuses r) × (at′ ≡ at))
+    (GivesStep (treeOf (encode mastTree)) (getD at w 0) x answer × (at′ ≡ set at w (getD (answer .values) 0 0)))
+    (handedRefusals (encode mastTree) n k at) (walkRefusals (treeOf (encode mastTree)) n k at w x) judged (rw (treeOf-encode mastTree sound) rest)
+
+-- the first of them goes in
+pub mast-enters : WalkSays (encode mastTree) 1 1 (0 ∷ 0 ∷ 2 ∷ []) 0 0 (gives (10 ∷ 5 ∷ 0 ∷ [])) (10 ∷ 0 ∷ 2 ∷ [])
+unfolding computing within anyOf inside comesInside
+mast-enters =
+    mast-walks 1 1 (0 ∷ 0 ∷ 2 ∷ []) 0 0 (gives (10 ∷ 5 ∷ 0 ∷ [])) (10 ∷ 0 ∷ 2 ∷ []) none-inside
+    (inr (
+      omega arith,
+      inr (
+        (omega arith, omega arith),
+        inr ((0, refl), inr (refl, inr ((_, refl), inr (refl, ((record { node = 10; cost = 5 }, refl, 0, refl, refl), refl))))),
+      ),
+    ))
+
+-- walkers at a state of node 1, at 0 and at 2: one is inside
+one-inside : (s : ℕ) → s < nodes → mastTree .owner s ≡ some 1 → mastTree .below s ≡ none → inside mastTree 1 (s ∷ 0 ∷ 2 ∷ []) ≡ 1
+    → Passed (handedRefusals (encode mastTree) 1 1 (s ∷ 0 ∷ 2 ∷ []))
+unfolding computing
+one-inside s range own plain count =
+    mast-judged 1 1 (s ∷ 0 ∷ 2 ∷ []) (omega arith, omega arith) (omega arith, (range, (omega arith, (omega arith, tt))))
+    ((0, refl), ((1, own), ((0, refl), ((0, refl), tt)))) (plain, (refl, (refl, tt))) count (omega arith)
+
+-- the walker at 0 may not go in, and stays
+pub mast-crowded : WalkSays (encode mastTree) 1 1 (10 ∷ 0 ∷ 2 ∷ []) 1 0 (refuses 22) (10 ∷ 0 ∷ 2 ∷ [])
+unfolding computing within anyOf inside comesInside
+mast-crowded =
+    mast-walks 1 1 (10 ∷ 0 ∷ 2 ∷ []) 1 0 (refuses 22) (10 ∷ 0 ∷ 2 ∷ []) (one-inside 10 (omega arith) refl refl refl)
+    (inr (omega arith, inr ((omega arith, omega arith), inr ((0, refl), inr (refl, inr ((_, refl), inl (λ free. true-false refl free, (refl, refl))))))))
+
+-- the one inside may go on inside, and its record alone changes
+pub mast-inside : WalkSays (encode mastTree) 1 1 (10 ∷ 0 ∷ 2 ∷ []) 0 2 (gives (11 ∷ 4 ∷ 10 ∷ [])) (11 ∷ 0 ∷ 2 ∷ [])
+unfolding computing within anyOf inside comesInside
+mast-inside =
+    mast-walks 1 1 (10 ∷ 0 ∷ 2 ∷ []) 0 2 (gives (11 ∷ 4 ∷ 10 ∷ [])) (11 ∷ 0 ∷ 2 ∷ []) (one-inside 10 (omega arith) refl refl refl)
+    (inr (
+      omega arith,
+      inr (
+        (omega arith, omega arith),
+        inr ((1, refl), inr (refl, inr ((_, refl), inr (refl, ((record { node = 11; cost = 4 }, refl, 10, refl, refl), refl))))),
+      ),
+    ))
+
+-- inside node 10 is where the step leads, and not the target of its transition, node 1: with a limit of 0 the walker at 0 may not go
+pub mast-by-state : WalkSays (encode mastTree) 10 0 (0 ∷ []) 0 0 (refuses 22) (0 ∷ [])
+unfolding computing within anyOf inside comesInside
+mast-by-state =
+    mast-walks 10 0 (0 ∷ []) 0 0 (refuses 22) (0 ∷ [])
+    (mast-judged 10 0 (0 ∷ []) (omega arith, omega arith) (omega arith, (omega arith, tt)) ((1, refl), ((0, refl), tt)) (refl, tt) refl (omega arith))
+    (inr (omega arith, inr ((omega arith, omega arith), inr ((0, refl), inr (refl, inr ((_, refl), inl (λ free. true-false refl free, (refl, refl))))))))

@@ -20,3 +20,4 @@ pub mod Demand
 pub mod Mast
 pub mod Merge
 pub mod Import
+pub mod Walk

@@ -1,4 +1,5 @@
--- The limits and sizes of document 01, each named once; the words of a book and the longest stream are document 02's (W-205).
+-- The limits and sizes of document 01, each named once; the words of a book and the longest stream are document 02's (W-205), and so is the most
+-- walkers (W-206).
 use Prim.Native.Nat.{ℕ, _*_}
 
 -- how many machines, nodes and commands there are: each is a number under its limit
@@ -59,3 +60,7 @@ longestInput = 65536
 -- the length of the plan buffer of demand 3
 abbrev pub planBuffer : ℕ
 planBuffer = 255
+
+-- the most walkers of one call, and their highest limit (document 02, W-206)
+abbrev pub mostWalkers : ℕ
+mostWalkers = 8

@@ -12,6 +12,7 @@ use Rattle.definitions.specs.Calls.{LoadSays, ExitSays, StepSays, PlanSays}
 use Rattle.definitions.specs.Write.{WriteSays}
 use Rattle.definitions.specs.Import.{Reading, took, waited, ImportSays}
 use Rattle.definitions.specs.Choose.{Choice, first, second, ChoiceSays}
+use Rattle.definitions.specs.Walk.{WalkSays}
 
 -- what a word holds after the call that held `old` before it: the i-th value that the answer gives; a refusal gives none
 abbrev pub outOf : Answer → ℕ → ℕ → ℕ
@@ -83,3 +84,11 @@ ImportReturns n x v kind seconds dead out size number out′ size′ =
     InOrder (wants 6 (readingAs kind seconds) ∷ [])
     (λ k. (number ≡ k) × (out′ ≡ out) × (size′ ≡ size))
     ((reading : Reading) × (readingAs kind seconds ≡ some reading) × TimingReturns n x v reading dead out size number out′ size′)
+
+-- a walker command: the number, the walkers' states, the cost and the acting node, by the answer that document 02 gives (W-206)
+pub record WalkReturns (book : List ℕ) (n k : ℕ) (states : List ℕ) (w x cost acted number : ℕ) (states′ : List ℕ) (cost′ acted′ : ℕ) : Type 0 where
+  pub answer : Answer
+  pub says : WalkSays book n k states w x answer states′
+  pub returned : number ≡ answer .number
+  pub cost-word : cost′ ≡ outOf answer 1 cost
+  pub acted-word : acted′ ≡ outOf answer 2 acted

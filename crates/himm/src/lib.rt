@@ -3,7 +3,8 @@
 ghost use Rattle.definitions.specs.Open.{freshTree, ladderTree};
 ghost use Rattle.definitions.specs.Calls.{OpenSays};
 ghost use Rattle.definitions.specs.Merge.{MergeSays};
-ghost use Rattle.himm.specs.Exports.{LoadReturns, ExitReturns, StepReturns, PlanReturns, WriteReturns, ChooseReturns, TimingReturns, ImportReturns};
+ghost use Rattle.definitions.specs.Walk.{OpenWalkersSay};
+ghost use Rattle.himm.specs.Exports.{LoadReturns, ExitReturns, StepReturns, PlanReturns, WriteReturns, ChooseReturns, TimingReturns, ImportReturns, WalkReturns};
 ghost use Rattle.importing.specs.Meaning.{readingOf};
 use choosing::Chosen;
 use exiting::ExitAnswer;
@@ -231,4 +232,42 @@ pub extern "C" fn himm_import(
         return import(node, command, target, waited, out, length);
     }
     6
+}
+
+// The opening of walkers, each at its state: at most limit of them may be inside the node. Nothing is written. Refuses 1, 2, 23, 6, 7, 14, 23.
+#[no_mangle]
+pub extern "C" fn himm_walkers(book: &[u32], node: u32, limit: u32, walkers: &[u32]) -> u32
+    ensures { λ r. ⌜ OpenWalkersSay (now (book .entry)) node limit (now («walkers» .entry)) r ⌝ }
+{
+    walking::open_walkers(book, node, limit, walkers)
+}
+
+// A walker command: the walker's state becomes the one that the command leads to; its cost, and the node whose transition was used. Refuses as
+// the opening does, then 6 (a number with no walker, a command out of range), 17, 22.
+#[no_mangle]
+pub extern "C" fn himm_walk(
+    book: &[u32],
+    node: u32,
+    limit: u32,
+    walkers: &mut [u32],
+    walker: u32,
+    command: u32,
+    cost: &mut u32,
+    acted: &mut u32,
+) -> u32
+    ensures { λ r. ⌜ WalkReturns (now (book .entry)) node limit (now («walkers» .entry)) walker command (now (cost .entry)) (now (acted .entry)) r
+        (now («walkers» .exit)) (now (cost .exit)) (now (acted .exit)) ⌝ }
+{
+    match walking::walk(book, node, limit, walkers, walker, command) {
+        StepAnswer::Moved {
+            state: _,
+            cost: c,
+            node: n,
+        } => {
+            *cost = c;
+            *acted = n;
+            0
+        }
+        StepAnswer::Refused(number) => number,
+    }
 }

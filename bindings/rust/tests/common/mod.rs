@@ -2,6 +2,7 @@
 #![allow(dead_code)]
 
 pub mod damage;
+pub mod walkers;
 
 use himm::{raw, Refusal, Timing};
 use himm_model::flat::Flat;
