@@ -316,8 +316,8 @@ uint32_t himm_import(uint32_t node, uint32_t command, uint32_t target, uint32_t 
 ** Both refuse: HIMM_WRONG_LENGTH (the book), HIMM_TORN_BOOK, HIMM_TOO_MANY_WALKERS (limit or walkers_len over HIMM_WALKERS),
 ** HIMM_OUT_OF_RANGE (the node or a walker's state), HIMM_NOT_IN_USE (likewise), HIMM_NOT_PLAIN (a walker's state; the node may be refined),
 ** HIMM_TOO_MANY_WALKERS (more walkers are inside the node than the limit).
-** himm_walk then, after all of these: HIMM_OUT_OF_RANGE (walker is not under walkers_len), HIMM_OUT_OF_RANGE (the command), HIMM_STOPS, HIMM_NODE_FULL (the
-** walker is outside the node, the state that it would come to is inside, and as many walkers as the limit are inside).
+** himm_walk then, after all of these: HIMM_OUT_OF_RANGE (walker is not under walkers_len), HIMM_OUT_OF_RANGE (the command), HIMM_STOPS,
+** HIMM_NODE_FULL (the walker is outside the node, the state that it would come to is inside, and as many walkers as the limit are inside).
 */
 uint32_t himm_walkers(const uint32_t *book, size_t book_len, uint32_t node, uint32_t limit, const uint32_t *walkers, size_t walkers_len);
 uint32_t himm_walk(const uint32_t *book, size_t book_len, uint32_t node, uint32_t limit, uint32_t *walkers, size_t walkers_len,

@@ -77,7 +77,8 @@ fn count_inside(book: &[u32], n: u32, states: &[u32]) -> u32
 }
 
 // The opening of walkers: judges a node, a limit and the walkers' states, and gives 0 or refuses: 1 (a wrong length), 2 (book not well formed), 23
-// (the limit or the number of walkers over 8), 6 (a number out of range), 7 (a node not in use), 14 (a walker at a node that is not plain), 23 (more than the limit inside).
+// (the limit or the number of walkers over 8), 6 (a number out of range), 7 (a node not in use), 14 (a walker at a node that is not plain), 23
+// (more than the limit inside).
 pub fn open_walkers(book: &[u32], node: u32, limit: u32, walkers: &[u32]) -> u32
     ensures { λ r. ⌜ OpenWalkersSay (now (book .entry)) node limit (now («walkers» .entry)) r ⌝ }
 {
@@ -178,7 +179,8 @@ fn advance_from(s: u32, book: &[u32], n: u32, full: bool, x: u32) -> Walked
 }
 
 // A walker command: the walker's step, and its record with the state that the step gives. It refuses as the opening does, then 6 (a number with no
-// walker), what Step refuses, and 22 (the walker is outside the node, its step leads inside, and as many as may be are there); refused, no record changes.
+// walker), what Step refuses, and 22 (the walker is outside the node, its step leads inside, and as many as may be are there); refused, no
+// record changes.
 pub fn walk(
     book: &[u32],
     node: u32,
