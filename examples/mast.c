@@ -2,8 +2,9 @@
 ** Opens a holding, loads the stream whose hexadecimal text is named on the command line, refreshes it, and prints the cheapest plan
 ** from state 0 to state 2 and from state 2 to state 11, with each state that the station passes and the node and level that acted. Then
 ** it imports a probe's timing of node 1's transition and plans from state 0 to state 2 over it. It holds node 11, plans round it, and
-** releases it. It lets two walkers go from state 0 with one place inside node 1. Finally it merges the book with itself, and plans from
-** state 0 to state 2 again and between the same states of the twin.
+** releases it. It makes machine 1 dear to leave, plans from state 0 to state 2 past it and from state 11 out of it, and takes the cost
+** back. It lets two walkers go from state 0 with one place inside node 1. Finally it merges the book with itself, and plans from state 0 to
+** state 2 again and between the same states of the twin.
 */
 #include <ctype.h>
 #include <stdio.h>
@@ -84,6 +85,13 @@ static void set_hold(uint32_t node, uint8_t hold) {
   load(bytes, sizeof bytes);
 }
 
+/* Sets what leaving a machine costs, and refreshes. */
+static void set_leave(uint8_t machine, uint16_t cost) {
+  const uint8_t bytes[] = {HIMM_LEAVE, machine, (uint8_t)(cost >> 8), (uint8_t)cost, HIMM_REFRESH};
+  printf("leaving machine %u costs %u\n", (unsigned)machine, (unsigned)cost);
+  load(bytes, sizeof bytes);
+}
+
 /* Opens two walkers at state 0, of which one may be inside node 1, and gives them some commands. */
 static void let_walkers_go(void) {
   static const uint32_t commands[][2] = {{0, 0}, {1, 0}, {0, 2}, {0, 1}, {1, 0}};
@@ -130,6 +138,10 @@ int main(int argc, char **argv) {
   set_hold(11, 1);
   show_plan(0, 2);
   set_hold(11, 0);
+  set_leave(1, 3);
+  show_plan(0, 2);
+  show_plan(11, 2);
+  set_leave(1, 0);
   let_walkers_go();
   merge_with_itself();
   load(refresh, sizeof refresh);

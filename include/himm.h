@@ -4,8 +4,12 @@
 ** A station is a tree of small machines. A node of a machine is plain, and then it is a state, or it is refined and holds one machine
 ** below it. A node has at most one transition for each command, to a node of the same machine, with a cost. A command at a state uses the
 ** transition of the lowest node that has one, the state itself first and then the nodes that hold it; the station then enters the
-** target, that is, it goes to the start node of the machine below, and on down to a state. The cost is that of the transition alone.
-** Where no node has a transition for the command, the station stops.
+** target, that is, it goes to the start node of the machine below, and on down to a state. Where no node has a transition for the command,
+** the station stops.
+**
+** A command costs what its transition costs, and for each machine that it climbs past what leaving that machine costs: the state's machine
+** and those above it, up to the one below the node that acts. That node's own machine is not left, and entering costs nothing. A machine
+** costs nothing to leave until a stream gives it a cost (HIMM_LEAVE); the root is never left, and has none.
 **
 ** A node that is not its machine's start may be held, for maintenance, and is then avoided: every transition into it is shut, also one
 ** from the node to itself. A shut transition counts as absent, in steps, exit costs and plans alike, so the command is looked for further
@@ -13,9 +17,10 @@
 ** transitions into a held node stay in the book, may be set and deleted, and count again once the node is released.
 **
 ** A station is kept in two lists of 32-bit words: a book (the tree) and a sheet (the exit costs and the cheapest ways inside each
-** machine, from which plans are made). The layout of both is in document 01, "Book and sheet in memory"; document 02 (W-205) adds a word
-** for each node at the end of the book, from word 4,737 on: 1 where the node is held, else 0. A book is well formed only if nodes that are
-** not in use and start nodes have 0 there.
+** machine, from which plans are made). The layout of both is in document 01, "Book and sheet in memory"; document 02 adds words at the end
+** of the book. From word 4,737 on there is one for each node (W-205): 1 where the node is held, else 0. From word 4,993 on there is one for
+** each machine (W-207): what leaving it costs, at most HIMM_LARGEST_COST. A book is well formed only if nodes that are not in use and start
+** nodes have 0 there, and so machines that are not in use and the root.
 **
 ** MEMORY. The caller owns all memory, before, during and after each call. Nothing is allocated, nothing is kept between calls, and there
 ** is no global state: calls on different memory may run on different threads at the same time, and so may calls that only read the
@@ -49,15 +54,17 @@ extern "C" {
 /*
 ** The version of this header, raised where a signature or a size changes. Sizes are exact, so a program and the library that it links
 ** must be of one version. What changed in version 2: himm_step also stores the node whose transition was used. In version 3: a book has
-** HIMM_NODES more words at its end, for the holds, and HIMM_STREAM_BYTES is larger. A stream of an earlier version is loaded as before; a
-** book of an earlier version becomes one of this by zeros at its end, and its sheet stays true of it.
+** HIMM_NODES more words at its end, for the holds, and HIMM_STREAM_BYTES is larger. In version 4: a book has HIMM_MACHINES more words at
+** its end, for the costs of leaving; HIMM_STREAM_BYTES and HIMM_LARGEST_PLAN_COST are larger, and HIMM_LARGEST_STEP_COST is new. A stream
+** of an earlier version is loaded as before; a book of an earlier version becomes one of this by zeros at its end, and its sheet stays true
+** of it.
 */
-#define HIMM_VERSION 3
+#define HIMM_VERSION 4
 
 /*
-** Limits. A machine, a node and a command are numbers from 0, each under its limit; a cost of a transition is at most
-** HIMM_LARGEST_COST. The root is at level 1 and no machine is lower than level HIMM_LEVELS. A call takes at most HIMM_WALKERS walkers, and a
-** limit of at most HIMM_WALKERS.
+** Limits. A machine, a node and a command are numbers from 0, each under its limit; a cost of a transition or of leaving a machine is at
+** most HIMM_LARGEST_COST. The root is at level 1 and no machine is lower than level HIMM_LEVELS. A call takes at most HIMM_WALKERS walkers,
+** and a limit of at most HIMM_WALKERS.
 */
 #define HIMM_MACHINES 64
 #define HIMM_NODES 256
@@ -68,14 +75,16 @@ extern "C" {
 
 /*
 ** Sizes: the words of a book and of a sheet, which are exact; the bytes of a plan buffer and of an output that are enough for every
-** book, and of an output that are enough for every timing; the largest cost of a plan; how many commands of a list himm_choose looks at.
+** book, and of an output that are enough for every timing; the largest cost of one command and of a plan; how many commands of a list
+** himm_choose looks at.
 */
-#define HIMM_BOOK_WORDS 4993
+#define HIMM_BOOK_WORDS 5057
 #define HIMM_SHEET_WORDS 2880
 #define HIMM_PLAN_BYTES 255
-#define HIMM_STREAM_BYTES 34812
+#define HIMM_STREAM_BYTES 34938
 #define HIMM_IMPORT_BYTES 8
-#define HIMM_LARGEST_PLAN_COST 16711425
+#define HIMM_LARGEST_STEP_COST 524280
+#define HIMM_LARGEST_PLAN_COST 133691400
 #define HIMM_LIST_COMMANDS 65536
 
 /*
@@ -92,13 +101,14 @@ extern "C" {
 #define HIMM_BEGIN 0x10   /* machine, start node: a new tree of one machine; the old one is emptied first */
 #define HIMM_ADD 0x11     /* machine, new node */
 #define HIMM_REFINE 0x12  /* node, new machine, its new start node; the node keeps its transitions and its hold */
-#define HIMM_REMOVE 0x13  /* node: it goes with all below it, their holds and the transitions into it */
+#define HIMM_REMOVE 0x13  /* node: it goes with all below it, their holds and costs of leaving, and the transitions into it */
 #define HIMM_ARROW 0x14   /* node, command, target, cost: sets or replaces a transition */
 #define HIMM_CLEAR 0x15   /* node, command: deletes a transition, which may be absent */
 #define HIMM_START 0x16   /* node, which must not be held: it becomes the start node of its machine */
-#define HIMM_CROWN 0x17   /* new root machine, its one node, which holds the old root */
+#define HIMM_CROWN 0x17   /* new root machine, its one node, which holds the old root; leaving the old root costs nothing at first */
 #define HIMM_REFRESH 0x18 /* fills the rows of every stale machine in the sheet */
 #define HIMM_HOLD 0x1A    /* node, 1 or 0: the node is held, which a start node must not be, or released; it may be so already */
+#define HIMM_LEAVE 0x1B   /* machine, which must not be the root, and what leaving it costs from now on; it may be so already */
 
 /*
 ** Kinds of a probe's reading: seconds that a transition took, and seconds waited for one that did not come to its end.
@@ -116,8 +126,8 @@ enum himm_refusal {
   HIMM_FALSE_SHEET = 3,      /* the sheet is not true of the book */
   HIMM_CUT_SHORT = 4,        /* the stream ends inside a command */
   HIMM_UNKNOWN_OPCODE = 5,   /* a byte that is no opcode */
-  HIMM_OUT_OF_RANGE = 6,     /* a machine, node or command that is not under its limit, a walker that there is not, a hold over 1, or an
-                                unknown kind of reading */
+  HIMM_OUT_OF_RANGE = 6,     /* a machine, node or command that is not under its limit, a walker that there is not, a hold over 1, the
+                                root for HIMM_LEAVE, or an unknown kind of reading */
   HIMM_NOT_IN_USE = 7,       /* a machine or node that is not in use */
   HIMM_IN_USE = 8,           /* a new machine or node that is in use already */
   HIMM_ALREADY_REFINED = 9,  /* refine: the node holds a machine already */
@@ -141,7 +151,7 @@ enum himm_refusal {
 ** himm_open_fresh: make a book of one machine, the root 0, with one node, its start 0, and no transitions.
 ** himm_open_ladder: make the book of the ladder, 63 machines of 3 nodes each on 6 levels. Node 3m + k belongs to machine m; k = 0 holds
 ** machine 2m + 1 and k = 2 holds machine 2m + 2 where these are under 63; k = 1 is the start node. Commands 0 and 1 go to the neighbours
-** k - 1 and k + 1 at cost 1. In both no node is held.
+** k - 1 and k + 1 at cost 1. In both no node is held and no machine costs anything to leave.
 **
 **   book, book_len    HIMM_BOOK_WORDS words, written whole; what they held does not matter
 **   sheet, sheet_len  HIMM_SHEET_WORDS words, written whole; every machine in use is stale
@@ -155,8 +165,8 @@ uint32_t himm_open_ladder(uint32_t *book, size_t book_len, uint32_t *sheet, size
 ** himm_load: do the commands of a stream in order, up to its end or to the first command that is refused.
 **
 ** A command marks stale every machine that it makes, the machine that it edits and all machines above that one, and blanks their rows
-** in the sheet, even if nothing differs; hold edits the machine of its node; crown marks only the new root. Refresh fills the rows of all
-** stale machines and touches no others.
+** in the sheet, even if nothing differs; hold edits the machine of its node, leave the machine that it names; crown marks only the new
+** root. Refresh fills the rows of all stale machines and touches no others.
 **
 **   book, book_len      the book, edited in place
 **   sheet, sheet_len    its sheet, edited in place
@@ -172,9 +182,9 @@ uint32_t himm_load(uint32_t *book, size_t book_len, uint32_t *sheet, size_t shee
                    uint64_t *bytes_taken, uint64_t *commands_taken);
 
 /*
-** himm_exit: the exit cost of a machine for a command: the least cost, the last command not counted, of a list of commands from the
-** machine's start state that all use transitions in the machine or below it, but for the last, the given command, which finds none
-** there.
+** himm_exit: the exit cost of a machine for a command: the least cost of a list of commands from the machine's start state that all use
+** transitions in the machine or below it, but for the last, the given command, which finds none there. Of the last command only the leaving
+** of machines below the machine counts: neither its transition, wherever that is, nor the leaving of the machine itself.
 **
 **   book, book_len, sheet, sheet_len  read only
 **   machine, command                  the machine to leave and the command that leaves it
@@ -190,12 +200,12 @@ uint32_t himm_exit(const uint32_t *book, size_t book_len, const uint32_t *sheet,
 ** himm_step: the state that one command leads to, its cost, and the node whose transition was used.
 **
 ** The node tells which level acted: that of its machine, whose number is the node's first word in the book. Where it is not the state
-** itself, the station left every machine from the state's up to the one below that node.
+** itself, the station left every machine from the state's up to the one below that node, and the cost has what leaving each of them costs.
 **
 **   book, book_len  read only; no sheet is needed
 **   state, command  where the station is and what it is told
 **   next            the state that it comes to
-**   cost            the cost of the transition used
+**   cost            the cost of the transition used and of leaving these machines, at most HIMM_LARGEST_STEP_COST
 **   node            the node whose transition was used: the state, or a node that holds it
 **
 ** Refuses: HIMM_WRONG_LENGTH, HIMM_TORN_BOOK, HIMM_OUT_OF_RANGE, HIMM_NOT_IN_USE, HIMM_NOT_PLAIN, HIMM_STOPS.
@@ -221,8 +231,8 @@ uint32_t himm_plan(const uint32_t *book, size_t book_len, const uint32_t *sheet,
                    uint8_t *plan, size_t plan_len, uint32_t *cost, uint32_t *count);
 
 /*
-** himm_write: the stream of a book, its holds last. Loaded into any holding whose book is well formed and whose sheet is true, it is taken
-** whole and leaves the same book, every machine in use stale.
+** himm_write: the stream of a book, last its holds and after them its costs of leaving. Loaded into any holding whose book is well formed
+** and whose sheet is true, it is taken whole and leaves the same book, every machine in use stale.
 **
 **   book, book_len  read only; no sheet is needed
 **   out, out_len    takes the stream at its front; later bytes are untouched. HIMM_STREAM_BYTES bytes are always enough
@@ -235,7 +245,7 @@ uint32_t himm_write(const uint32_t *book, size_t book_len, uint8_t *out, size_t 
 /*
 ** himm_choose: which of two lists of commands leads from one state to another at the lower cost, and how much of it is used: up to its
 ** first arrival. A list ends at a byte over 15, where the station stops, or after HIMM_LIST_COMMANDS commands. On equal cost the first
-** list is chosen. Where from is to, nothing of the first list is used.
+** list is chosen. Where from is to, nothing of the first list is used. Costs are compared in full, also those that 32 bits would not hold.
 **
 **   book, book_len                         read only; no sheet is needed
 **   from, to                               two states
@@ -254,7 +264,7 @@ uint32_t himm_choose(const uint32_t *book, size_t book_len, uint32_t from, uint3
 ** number would be free. A new root takes the next lowest machine and the next two lowest nodes: the lower node is its start and holds
 ** the first book's root, the other holds the second's. The root has no transitions, so a cheapest list between two states of one of the
 ** books costs what it cost there, where there was no way there is none, and no way leads from one of the books into the other. Nodes that
-** are held stay held under their new numbers.
+** are held stay held under their new numbers, and leaving a machine costs what it cost; the new root and the two old ones cost nothing.
 **
 **   first, first_len    HIMM_BOOK_WORDS words, read only; no sheet is needed
 **   second, second_len  HIMM_BOOK_WORDS words, read only; first and second may be one and the same list
@@ -310,7 +320,7 @@ uint32_t himm_import(uint32_t node, uint32_t command, uint32_t target, uint32_t 
 **   walkers, walkers_len  one word for each walker, its state, for at most HIMM_WALKERS walkers or for none; several may be at one state.
 **                         himm_walkers only reads them. himm_walk stores the state that the walker comes to in the walker's own word
 **   walker, command       the walker, by the place of its word from 0, and what it is told
-**   cost                  the cost of the transition used
+**   cost                  the cost of the command, as himm_step gives it
 **   acted                 the node whose transition was used: the walker's state before the command, or a node that holds it
 **
 ** Both refuse: HIMM_WRONG_LENGTH (the book), HIMM_TORN_BOOK, HIMM_TOO_MANY_WALKERS (limit or walkers_len over HIMM_WALKERS),

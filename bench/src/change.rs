@@ -18,7 +18,8 @@ const BARE: [Row; 3] = [
 ];
 
 /// The rows of each kind of book. Steps are compared by state and cost, since a library before version 2 does not name the node. No node is
-/// held, and books are compared up to the holds, since a library before version 3 has none.
+/// held and no machine costs anything to leave, and books are compared up to the holds: a library before version 3 has no words for them,
+/// and one before version 4 none for costs of leaving.
 const ROWS: [Row; 15] = [
     ("plan", "himm_plan", |side, i, t| side.plan(i, t).into_iter().collect()),
     ("checks of book and sheet", "himm_exit", |side, i, t| none(side.at(i).check_both(t))),

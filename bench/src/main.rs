@@ -13,7 +13,7 @@ use himm_model::flat::Flat;
 use holding::{Holding, PLAN_BYTES};
 use library::Library;
 use rows::Agreement;
-use side::{half_full, held, kinds, Side};
+use side::{half_full, held, kinds, with_leaves, Side};
 use timing::{print_head, timed, Times};
 
 /// Takes the library's shared object and, for the table of a change, that of the library before it.
@@ -47,9 +47,10 @@ fn tables(library: &'static Library, agreement: &mut Agreement) {
     for (name, side) in &kinds {
         rows::all(name, side, agreement);
     }
-    let held = held(library);
-    rows::all("random books with holds", &held, agreement);
-    compare_all(held.at(0), agreement);
+    for (name, side) in [("random books with holds", held(library)), ("random books with costs of leaving", with_leaves(library))] {
+        rows::all(name, &side, agreement);
+        compare_all(side.at(0), agreement);
+    }
     rows::merges("half-full random books", &half_full(library), agreement);
     rows::imports(&kinds[0].1, agreement);
     parts(&kinds);

@@ -72,6 +72,11 @@ pub fn held(library: &'static Library) -> Side {
     random_books(library, &Shape { filled: 60, holds: 10, ..Shape::full() })
 }
 
+/// The random books again with a cost of leaving for every machine but the root; no library before version 4 has them.
+pub fn with_leaves(library: &'static Library) -> Side {
+    random_books(library, &Shape { filled: 60, leaves: 100, ..Shape::full() })
+}
+
 /// Random books of which any two fit together: each has about half of the machines and of the nodes, and none at the lowest level.
 pub fn half_full(library: &'static Library) -> Side {
     let shape = Shape { machines: MACHINES / 2 - 1, nodes: NODES / 2 - 1, filled: 60, ..Shape::full() };

@@ -15,6 +15,10 @@ pub fn hold_at(n: usize) -> usize {
     4737 + n
 }
 
+pub fn leave_at(m: usize) -> usize {
+    4993 + m
+}
+
 pub fn encode(tree: &Tree) -> Vec<u32> {
     let number = |n: Option<usize>| n.map_or(ABSENT, |n| n as u32);
     let mut words = vec![tree.root as u32];
@@ -31,6 +35,7 @@ pub fn encode(tree: &Tree) -> Vec<u32> {
         }
     }
     words.extend(tree.nodes.iter().map(|node| node.as_ref().is_some_and(|n| n.on_hold) as u32));
+    words.extend(tree.machines.iter().map(|machine| machine.as_ref().map_or(0, |m| m.leave)));
     words
 }
 
@@ -62,9 +67,10 @@ fn number_or_absent(word: u32, limit: usize) -> Option<Option<usize>> {
 /// A record of a machine; the outer `None` is a record that no well-formed book has.
 fn read_machine(words: &[u32], m: usize) -> Option<Option<Machine>> {
     let holder = number_or_absent(words[machine_at(m)], NODES)?;
+    let leave = below(words[leave_at(m)], 65536)? as u32;
     match number_or_absent(words[machine_at(m) + 1], NODES)? {
-        None => holder.is_none().then_some(None),
-        Some(start) => Some(Some(Machine { holder, start })),
+        None => (holder.is_none() && leave == 0).then_some(None),
+        Some(start) => Some(Some(Machine { holder, start, leave })),
     }
 }
 
@@ -105,11 +111,12 @@ fn owned_by(tree: &Tree, n: usize, m: usize) -> bool {
     tree.nodes[n].as_ref().is_some_and(|node| node.owner == m)
 }
 
-/// The start belongs to the machine and is not held, and the root alone has no holder; another's holder names it.
+/// The start belongs to the machine and is not held, and the root alone has no holder, and costs nothing to leave; another's holder names
+/// it.
 fn machine_fits(tree: &Tree, m: usize) -> bool {
     let Some(machine) = &tree.machines[m] else { return true };
     let placed = match machine.holder {
-        None => m == tree.root,
+        None => m == tree.root && machine.leave == 0,
         Some(n) => m != tree.root && tree.nodes[n].as_ref().is_some_and(|node| node.below == Some(m)),
     };
     placed && owned_by(tree, machine.start, m) && !tree.node(machine.start).on_hold

@@ -1,13 +1,17 @@
 //! The yardstick: a tree flattened to its states, and a binary-heap Dijkstra search over them. It trusts its book.
 
-use crate::book::{hold_at, machine_at, node_at};
+use crate::book::{hold_at, leave_at, machine_at, node_at};
 use crate::{ABSENT, BLANK, COMMANDS, NODES};
 use std::cmp::Reverse;
 use std::collections::BinaryHeap;
 
 const UNSEEN: u32 = u32::MAX;
 
-/// For each state and command the next state and the cost, as target × 65,536 + cost, or `BLANK` where the station stops.
+/// How many binary digits of a move's word are its cost; the next state stands above them. No cost of a command is as large as they hold,
+/// so that `BLANK` is no move.
+const COST_DIGITS: u32 = 24;
+
+/// For each state and command the next state and the cost as one word, or `BLANK` where the station stops.
 #[derive(Clone)]
 pub struct Flat {
     pub moves: Vec<[u32; COMMANDS]>,
@@ -33,7 +37,8 @@ impl Flat {
         flat
     }
 
-    /// A node's own transitions that count, and for the other commands those of the node that holds its machine.
+    /// A node's own transitions that count, and for the other commands the moves of the node that holds its machine, with what leaving that
+    /// machine costs.
     fn resolve(&mut self, book: &[u32], entered: &[u32], done: &mut [bool; NODES], n: usize) {
         let owner = book[node_at(n)];
         if done[n] || owner == ABSENT {
@@ -42,12 +47,13 @@ impl Flat {
         let holder = book[machine_at(owner as usize)];
         if holder != ABSENT {
             self.resolve(book, entered, done, holder as usize);
-            self.moves[n] = self.moves[holder as usize];
+            let leave = book[leave_at(owner as usize)];
+            self.moves[n] = self.moves[holder as usize].map(|word| if word == BLANK { BLANK } else { word + leave });
         }
         for x in 0..COMMANDS {
             let word = book[node_at(n) + 2 + x];
             if word != BLANK && entered[(word >> 16) as usize] != ABSENT {
-                self.moves[n][x] = entered[(word >> 16) as usize] << 16 | word & 0xffff;
+                self.moves[n][x] = a_move(entered[(word >> 16) as usize], word & 0xffff);
             }
         }
         done[n] = true;
@@ -58,9 +64,8 @@ impl Flat {
         let mut flat = Flat { moves: vec![[BLANK; COMMANDS]; NODES] };
         for n in (0..NODES).filter(|&n| book[node_at(n)] != ABSENT && book[node_at(n) + 1] == ABSENT) {
             for x in 0..COMMANDS {
-                let word = climb(book, n, x);
-                if word != BLANK {
-                    flat.moves[n][x] = enter(book, (word >> 16) as usize) << 16 | word & 0xffff;
+                if let Some((target, cost)) = climb(book, n, x) {
+                    flat.moves[n][x] = a_move(enter(book, target), cost);
                 }
             }
         }
@@ -69,7 +74,7 @@ impl Flat {
 
     pub fn step(&self, state: usize, command: usize) -> Option<(usize, u32)> {
         let word = self.moves[state][command];
-        (word != BLANK).then_some(((word >> 16) as usize, word & 0xffff))
+        (word != BLANK).then_some((next_state(word), cost_of(word)))
     }
 
     /// A cheapest list from one state to another.
@@ -93,9 +98,9 @@ impl Flat {
 
     fn relax(&self, s: usize, cost: u32, costs: &mut [u32], before: &mut [(u8, u8)], heap: &mut BinaryHeap<Reverse<(u32, u32)>>) {
         for (x, &word) in self.moves[s].iter().enumerate() {
-            let next = (word >> 16) as usize;
-            if word != BLANK && cost + (word & 0xffff) < costs[next] {
-                costs[next] = cost + (word & 0xffff);
+            let next = next_state(word);
+            if word != BLANK && cost + cost_of(word) < costs[next] {
+                costs[next] = cost + cost_of(word);
                 before[next] = (s as u8, x as u8);
                 heap.push(Reverse((costs[next], next as u32)));
             }
@@ -118,22 +123,38 @@ impl Flat {
     }
 }
 
+/// The word of a move to a state at a cost, and its two parts.
+fn a_move(next: u32, cost: u32) -> u32 {
+    next << COST_DIGITS | cost
+}
+
+fn next_state(word: u32) -> usize {
+    (word >> COST_DIGITS) as usize
+}
+
+fn cost_of(word: u32) -> u32 {
+    word & ((1 << COST_DIGITS) - 1)
+}
+
 fn on_hold(book: &[u32], node: usize) -> bool {
     book[hold_at(node)] == 1
 }
 
-/// The transition that a command uses at a state, `BLANK` where it finds none that counts.
-fn climb(book: &[u32], state: usize, command: usize) -> u32 {
-    let mut n = state;
+/// The target of the transition that a command uses at a state, and its cost with that of the machines left on the way up; `None` where it
+/// finds none that counts.
+fn climb(book: &[u32], state: usize, command: usize) -> Option<(usize, u32)> {
+    let (mut n, mut left) = (state, 0);
     loop {
         let word = book[node_at(n) + 2 + command];
         if word != BLANK && !on_hold(book, (word >> 16) as usize) {
-            return word;
+            return Some(((word >> 16) as usize, left + (word & 0xffff)));
         }
-        let holder = book[machine_at(book[node_at(n)] as usize)];
+        let machine = book[node_at(n)] as usize;
+        let holder = book[machine_at(machine)];
         if holder == ABSENT {
-            return BLANK;
+            return None;
         }
+        left += book[leave_at(machine)];
         n = holder as usize;
     }
 }

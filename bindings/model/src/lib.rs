@@ -20,9 +20,9 @@ pub const NODES: usize = 256;
 pub const COMMANDS: usize = 16;
 pub const LEVELS: usize = 8;
 pub const WALKERS: usize = 8;
-pub const BOOK_WORDS: usize = 4993;
+pub const BOOK_WORDS: usize = 5057;
 pub const SHEET_WORDS: usize = 2880;
-pub const STREAM_BYTES: usize = 34812;
+pub const STREAM_BYTES: usize = 34938;
 pub const LIST_COMMANDS: usize = 65536;
 
 /// A number that is not there.

@@ -1,4 +1,4 @@
-//! Merging two trees below a new root, with their holds: document 02, W-201 and W-205.
+//! Merging two trees below a new root, with their holds and what leaving their machines costs: document 02, W-201, W-205 and W-207.
 
 use crate::tree::{Machine, Node, Transition, Tree};
 use std::collections::BTreeMap;
@@ -26,7 +26,7 @@ impl Numbers {
     }
 
     fn machine(&self, old: &Machine) -> Machine {
-        Machine { holder: old.holder.map(|n| self.nodes[&n]), start: self.nodes[&old.start] }
+        Machine { holder: old.holder.map(|n| self.nodes[&n]), start: self.nodes[&old.start], leave: old.leave }
     }
 
     fn node(&self, old: &Node) -> Node {
@@ -59,7 +59,7 @@ pub fn merge(first: &Tree, second: &Tree) -> Option<Tree> {
     for (&old, &new) in &numbers.nodes {
         tree.nodes[new] = Some(numbers.node(second.node(old)));
     }
-    tree.machines[tree.root] = Some(Machine { holder: None, start: numbers.start });
+    tree.machines[tree.root] = Some(Machine::new(None, numbers.start));
     put_over(&mut tree, numbers.start, first.root);
     put_over(&mut tree, numbers.other, numbers.machines[&second.root]);
     Some(tree)
@@ -68,5 +68,5 @@ pub fn merge(first: &Tree, second: &Tree) -> Option<Tree> {
 /// A new node of the root that holds a machine.
 fn put_over(tree: &mut Tree, node: usize, machine: usize) {
     tree.nodes[node] = Some(Node { below: Some(machine), ..Node::plain(tree.root) });
-    tree.machines[machine].as_mut().expect("a machine in use").holder = Some(node);
+    tree.machine_mut(machine).holder = Some(node);
 }

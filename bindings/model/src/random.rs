@@ -60,7 +60,8 @@ pub enum Costs {
 }
 
 /// What a random book is like. `filled` is the share of node and command pairs that have a transition, in percent; `loops` is the share
-/// of transitions that lead to their own node; `holds` is the share of nodes that are held, start nodes left out.
+/// of transitions that lead to their own node; `holds` is the share of nodes that are held, start nodes left out; `leaves` is the share of
+/// machines whose leaving has a cost, one of `costs`, the root left out.
 #[derive(Clone, Copy, Debug)]
 pub struct Shape {
     pub growth: Growth,
@@ -71,19 +72,20 @@ pub struct Shape {
     pub loops: usize,
     pub costs: Costs,
     pub holds: usize,
+    pub leaves: usize,
 }
 
 impl Shape {
-    /// The largest book without holds: every machine, node and command in use, every transition there.
+    /// The largest book without holds and without costs of leaving: every machine, node and command in use, every transition there.
     pub fn full() -> Shape {
         let (growth, costs) = (Growth::Any, Costs::Any);
-        Shape { growth, machines: MACHINES, nodes: NODES, commands: COMMANDS, filled: 100, loops: 5, costs, holds: 0 }
+        Shape { growth, machines: MACHINES, nodes: NODES, commands: COMMANDS, filled: 100, loops: 5, costs, holds: 0, leaves: 0 }
     }
 
-    /// The book with the longest stream: one machine, with every node and transition, and all nodes but its start held. Each machine more
-    /// makes the stream two bytes shorter.
+    /// The book with the longest stream: every machine, node and transition, all nodes but the starts held, and a cost of leaving for every
+    /// machine but the root. Each machine less makes the stream two bytes shorter.
     pub fn longest() -> Shape {
-        Shape { machines: 1, holds: 100, ..Shape::full() }
+        Shape { costs: Costs::Largest, holds: 100, leaves: 100, ..Shape::full() }
     }
 
     /// A shape chosen at random.
@@ -101,6 +103,7 @@ impl Shape {
             loops: random.pick(&[0, 10, 50]),
             costs: random.pick(&[Costs::Zero, Costs::Few, Costs::Few, Costs::Any, Costs::Largest]),
             holds: random.pick(&[0, 0, 10, 30]),
+            leaves: random.pick(&[0, 50, 100]),
         }
     }
 }
@@ -133,6 +136,7 @@ pub fn book(random: &mut Random, shape: &Shape) -> Vec<Command> {
     all.extend(starts);
     all.extend(arrows(random, shape, &station.tree));
     all.extend(holds(random, shape, &station.tree));
+    all.extend(leaves(random, shape, &station.tree));
     all
 }
 
@@ -206,6 +210,17 @@ fn holds(random: &mut Random, shape: &Shape, tree: &Tree) -> Vec<Command> {
     nodes.filter(|_| random.chance(shape.holds)).map(|node| Command::Hold { node, hold: 1 }).collect()
 }
 
+/// Costs of leaving some machines; the root has none.
+fn leaves(random: &mut Random, shape: &Shape, tree: &Tree) -> Vec<Command> {
+    let mut all = vec![];
+    for machine in tree.machines_in_use().into_iter().filter(|&m| m != tree.root) {
+        if random.chance(shape.leaves) {
+            all.push(Command::Leave { machine, cost: cost(random, shape.costs) });
+        }
+    }
+    all
+}
+
 fn cost(random: &mut Random, costs: Costs) -> usize {
     match costs {
         Costs::Zero => 0,
@@ -224,7 +239,7 @@ pub fn bytes(commands: &[Command]) -> Vec<u8> {
 pub fn edit(random: &mut Random, tree: &Tree) -> Command {
     let node = some_node(random, tree);
     let machine = some_machine(random, tree);
-    match random.below(46) {
+    match random.below(52) {
         0 => Command::Begin { machine: new_machine(random, tree), start: new_node(random, tree) },
         1..=6 => Command::Add { machine, node: new_node(random, tree) },
         7..=12 => Command::Refine { node, machine: new_machine(random, tree), start: new_node(random, tree) },
@@ -236,6 +251,7 @@ pub fn edit(random: &mut Random, tree: &Tree) -> Command {
         33..=35 => Command::Start { node },
         36..=37 => Command::Crown { machine: new_machine(random, tree), node: new_node(random, tree) },
         38..=43 => Command::Hold { node, hold: some_hold(random) },
+        44..=49 => Command::Leave { machine, cost: cost(random, Costs::Few) },
         _ => Command::Refresh,
     }
 }

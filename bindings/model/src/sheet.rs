@@ -40,7 +40,7 @@ pub fn stale(tree: &Tree) -> Vec<u32> {
 }
 
 /// The exit costs of a machine: least costs from its start state to each state inside it, then the least over the states where a
-/// command finds no transition inside that counts.
+/// command finds no transition inside that counts, with what leaving the machines below costs there (document 02, W-207).
 pub fn exits(tree: &Tree, m: usize) -> Exits {
     let mut costs = vec![None; NODES];
     let mut open = vec![tree.enter(tree.machine(m).start)];
@@ -51,7 +51,7 @@ pub fn exits(tree: &Tree, m: usize) -> Exits {
         let so_far = costs[s].expect("a reached state");
         for (x, exit) in exits.iter_mut().enumerate() {
             match tree.step_inside(m, s, x) {
-                None => *exit = least(*exit, so_far),
+                None => *exit = least(*exit, so_far + tree.leaving_below(m, s)),
                 Some(to) => reach(&mut costs, &mut open, to.state, so_far + to.cost),
             }
         }
@@ -77,9 +77,9 @@ pub fn all_exits(tree: &Tree) -> Vec<Exits> {
     (0..MACHINES).map(|m| if tree.machines[m].is_some() { exits(tree, m) } else { [None; COMMANDS] }).collect()
 }
 
-/// The exit cost of a node: 0 where it is plain, else that of the machine below.
+/// The exit cost of a node: 0 where it is plain, else that of the machine below and what leaving that machine costs.
 pub fn node_exit(tree: &Tree, exits: &[Exits], n: usize, x: usize) -> Option<u32> {
-    tree.node(n).below.map_or(Some(0), |m| exits[m][x])
+    tree.node(n).below.map_or(Some(0), |m| exits[m][x].map(|e| e + tree.machine(m).leave))
 }
 
 /// The moves of a machine, by the transitions that count: from, command, to, and what the move costs.

@@ -15,6 +15,7 @@ pub enum Command {
     Crown { machine: usize, node: usize },
     Refresh,
     Hold { node: usize, hold: usize },
+    Leave { machine: usize, cost: usize },
 }
 
 /// How a machine's rows stand after some commands: stale and blank, as they were before, or filled by a refresh.
@@ -43,7 +44,7 @@ pub struct Loaded {
 /// The operands of an opcode, each with its width in bytes; `None` for an unknown opcode.
 fn widths(opcode: u8) -> Option<&'static [usize]> {
     match opcode {
-        0x10 | 0x11 | 0x17 => Some(&[1, 2]),
+        0x10 | 0x11 | 0x17 | 0x1b => Some(&[1, 2]),
         0x12 => Some(&[2, 1, 2]),
         0x13 | 0x16 => Some(&[2]),
         0x14 => Some(&[2, 1, 2, 2]),
@@ -65,6 +66,7 @@ impl Command {
             0x16 => Command::Start { node: o[0] },
             0x17 => Command::Crown { machine: o[0], node: o[1] },
             0x1a => Command::Hold { node: o[0], hold: o[1] },
+            0x1b => Command::Leave { machine: o[0], cost: o[1] },
             _ => Command::Refresh,
         }
     }
@@ -81,6 +83,7 @@ impl Command {
             Command::Crown { machine, node } => (0x17, vec![machine, node]),
             Command::Refresh => (0x18, vec![]),
             Command::Hold { node, hold } => (0x1a, vec![node, hold]),
+            Command::Leave { machine, cost } => (0x1b, vec![machine, cost]),
         }
     }
 
@@ -110,8 +113,8 @@ impl Command {
         Ok((Command::of(bytes[0], &operands), length))
     }
 
-    /// Whether each number that it names is under its limit, for refusal 6.
-    fn in_range(&self) -> bool {
+    /// Whether each number that it names is under its limit, for refusal 6. The machine whose leaving gets a cost must not be the root.
+    fn in_range(&self, root: usize) -> bool {
         let numbers = match *self {
             Command::Begin { machine, start: node } | Command::Add { machine, node } | Command::Crown { machine, node } => {
                 vec![(machine, MACHINES), (node, NODES)]
@@ -122,13 +125,15 @@ impl Command {
             Command::Clear { node, command } => vec![(node, NODES), (command, COMMANDS)],
             Command::Refresh => vec![],
             Command::Hold { node, hold } => vec![(node, NODES), (hold, 2)],
+            Command::Leave { machine, .. } if machine == root => return false,
+            Command::Leave { machine, .. } => vec![(machine, MACHINES)],
         };
         numbers.iter().all(|&(number, limit)| number < limit)
     }
 
     /// The refusal 6 to 12 or 21 of the command on a tree, or 0.
     pub fn refusal(&self, tree: &Tree) -> u32 {
-        if !self.in_range() {
+        if !self.in_range(tree.root) {
             return 6;
         }
         let machine_used = |m: usize| tree.machines[m].is_some();
@@ -148,6 +153,7 @@ impl Command {
             Command::Clear { node, .. } if node_used(node) => 0,
             Command::Start { node } if node_used(node) => first(&[(21, tree.node(node).on_hold)]),
             Command::Hold { node, hold } if node_used(node) => first(&[(21, hold == 1 && tree.is_start(node))]),
+            Command::Leave { machine, .. } if machine_used(machine) => 0,
             Command::Crown { machine, node } => first(&[(8, machine_used(machine) || node_used(node)), (12, tree.is_deep())]),
             _ => 7,
         }
@@ -213,6 +219,10 @@ impl Station {
             Command::Crown { machine, node } => self.crown(machine, node),
             Command::Refresh => self.refresh(),
             Command::Hold { node, hold } => self.hold(node, hold == 1),
+            Command::Leave { machine, cost } => {
+                self.tree.machine_mut(machine).leave = cost as u32;
+                self.touch(machine);
+            }
         }
     }
 
@@ -235,12 +245,12 @@ impl Station {
 
     fn start(&mut self, node: usize) {
         let owner = self.tree.node(node).owner;
-        self.tree.machines[owner].as_mut().expect("a machine in use").start = node;
+        self.tree.machine_mut(owner).start = node;
         self.touch(owner);
     }
 
     fn refine(&mut self, node: usize, machine: usize, start: usize) {
-        self.tree.machines[machine] = Some(Machine { holder: Some(node), start });
+        self.tree.machines[machine] = Some(Machine::new(Some(node), start));
         self.tree.nodes[start] = Some(Node::plain(machine));
         self.tree.node_mut(node).below = Some(machine);
         self.touch(machine);
@@ -248,8 +258,8 @@ impl Station {
 
     fn crown(&mut self, machine: usize, node: usize) {
         let old = self.tree.root;
-        self.tree.machines[old].as_mut().expect("the root").holder = Some(node);
-        self.tree.machines[machine] = Some(Machine { holder: None, start: node });
+        self.tree.machine_mut(old).holder = Some(node);
+        self.tree.machines[machine] = Some(Machine::new(None, node));
         self.tree.nodes[node] = Some(Node { below: Some(old), ..Node::plain(machine) });
         self.tree.root = machine;
         self.rows[machine] = Row::Stale;

@@ -21,9 +21,12 @@ pub struct Node {
 pub struct Machine {
     pub holder: Option<usize>,
     pub start: usize,
+    /// What leaving it costs (document 02, W-207); 0 for the root.
+    pub leave: u32,
 }
 
-/// What a command does at a state: the state that it leads to, the cost, and the node whose transition it uses.
+/// What a command does at a state: the state that it leads to, the cost, and the node whose transition it uses. The cost is that of the
+/// transition and of leaving each machine that the command climbs past.
 #[derive(Clone, Copy, Debug, PartialEq, Eq)]
 pub struct Moved {
     pub state: usize,
@@ -39,6 +42,13 @@ pub struct Tree {
     pub nodes: Vec<Option<Node>>,
 }
 
+impl Machine {
+    /// A machine that costs nothing to leave, as every new one.
+    pub fn new(holder: Option<usize>, start: usize) -> Machine {
+        Machine { holder, start, leave: 0 }
+    }
+}
+
 impl Node {
     pub fn plain(owner: usize) -> Node {
         Node { owner, below: None, transitions: [None; COMMANDS], on_hold: false }
@@ -49,7 +59,7 @@ impl Tree {
     /// The tree of one machine with its start node.
     pub fn single(machine: usize, start: usize) -> Tree {
         let mut tree = Tree { root: machine, machines: vec![None; MACHINES], nodes: vec![None; NODES] };
-        tree.machines[machine] = Some(Machine { holder: None, start });
+        tree.machines[machine] = Some(Machine::new(None, start));
         tree.nodes[start] = Some(Node::plain(machine));
         tree
     }
@@ -59,7 +69,7 @@ impl Tree {
         let mut tree = Tree::single(0, 1);
         for m in 0..63 {
             let holder = if m == 0 { None } else { Some(3 * ((m - 1) / 2) + if m % 2 == 1 { 0 } else { 2 }) };
-            tree.machines[m] = Some(Machine { holder, start: 3 * m + 1 });
+            tree.machines[m] = Some(Machine::new(holder, 3 * m + 1));
             for k in 0..3 {
                 tree.nodes[3 * m + k] = Some(ladder_node(m, k));
             }
@@ -69,6 +79,10 @@ impl Tree {
 
     pub fn machine(&self, m: usize) -> &Machine {
         self.machines[m].as_ref().expect("a machine in use")
+    }
+
+    pub fn machine_mut(&mut self, m: usize) -> &mut Machine {
+        self.machines[m].as_mut().expect("a machine in use")
     }
 
     pub fn node(&self, n: usize) -> &Node {
@@ -103,6 +117,11 @@ impl Tree {
     /// The nodes that are held, rising.
     pub fn nodes_on_hold(&self) -> Vec<usize> {
         (0..NODES).filter(|&n| self.nodes[n].as_ref().is_some_and(|node| node.on_hold)).collect()
+    }
+
+    /// The machines that cost something to leave, rising.
+    pub fn machines_with_leave(&self) -> Vec<usize> {
+        self.machines_in_use().into_iter().filter(|&m| self.machine(m).leave != 0).collect()
     }
 
     /// The node that holds the machine of a node.
@@ -152,6 +171,11 @@ impl Tree {
         self.node(n).transitions[command].filter(|t| !self.node(t.target).on_hold)
     }
 
+    /// What leaving the machines of a state costs, its own and those above it up to but not including machine `top`.
+    pub fn leaving_below(&self, top: usize, state: usize) -> u32 {
+        self.upward(self.node(state).owner).iter().take_while(|&&m| m != top).map(|&m| self.machine(m).leave).sum()
+    }
+
     /// What a command does at a state: the lowest node that has a transition which counts for it acts, the state itself first and then the
     /// nodes that hold it; `None` where the station stops.
     pub fn step(&self, state: usize, command: usize) -> Option<Moved> {
@@ -163,7 +187,8 @@ impl Tree {
         let mut n = state;
         loop {
             if let Some(t) = self.counting(n, command) {
-                return Some(Moved { state: self.enter(t.target), cost: t.cost, node: n });
+                let cost = t.cost + self.leaving_below(self.node(n).owner, state);
+                return Some(Moved { state: self.enter(t.target), cost, node: n });
             }
             if self.node(n).owner == top {
                 return None;

@@ -20,7 +20,7 @@ mod refusal;
 pub use refusal::Refusal;
 
 /// The version of `include/himm.h` that these calls are written for.
-pub const VERSION: u32 = 3;
+pub const VERSION: u32 = 4;
 
 /// Machines, nodes, commands and levels: each number is under its limit.
 pub const MACHINES: usize = 64;
@@ -32,12 +32,12 @@ pub const LEVELS: usize = 8;
 pub const WALKERS: usize = 8;
 
 /// The words of a book and of a sheet, which are exact.
-pub const BOOK_WORDS: usize = 4993;
+pub const BOOK_WORDS: usize = 5057;
 pub const SHEET_WORDS: usize = 2880;
 
 /// A plan buffer and an output for a stream that are long enough for every book.
 pub const PLAN_BYTES: usize = 255;
-pub const STREAM_BYTES: usize = 34812;
+pub const STREAM_BYTES: usize = 34938;
 
 /// An output that is long enough for every timing that is imported.
 pub const IMPORT_BYTES: usize = 8;
@@ -50,6 +50,9 @@ pub const REFRESH: u8 = 0x18;
 
 /// The opcode of hold, with a node in two bytes and 1 or 0 after it.
 pub const HOLD: u8 = 0x1A;
+
+/// The opcode of leave, with a machine in one byte and what leaving it costs in two, the high byte first, after it.
+pub const LEAVE: u8 = 0x1B;
 
 /// What a stream came to: the bytes and commands taken, and how it ended.
 #[derive(Clone, Copy, Debug, PartialEq, Eq)]
@@ -64,7 +67,7 @@ pub struct Loaded {
 pub struct Moved {
     /// The state that it led to.
     pub state: u32,
-    /// The cost of the transition used.
+    /// The cost of the transition used, and of leaving each machine below the node's.
     pub cost: u32,
     /// The node whose transition was used: the state that the command was given at, if it has one for it, else the lowest node above it
     /// that has. One into a held node is shut and counts as none. The level of the node's machine is the level that acted.

@@ -84,7 +84,7 @@ impl Refusal {
             Refusal::FalseSheet => "the sheet is not true of the book",
             Refusal::CutShort => "the stream ends inside a command",
             Refusal::UnknownOpcode => "a byte that is no opcode",
-            Refusal::OutOfRange => "a machine, node, command, walker or hold out of range",
+            Refusal::OutOfRange => "a machine, node, command, walker or hold out of range, or a cost of leaving the root",
             Refusal::NotInUse => "a machine or node that is not in use",
             Refusal::InUse => "a new machine or node that is in use already",
             Refusal::AlreadyRefined => "the node is refined already",

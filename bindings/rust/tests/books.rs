@@ -88,8 +88,8 @@ fn chains_of_eight_levels() {
         let mut random = Random::new(9000 + seed);
         let costs = random.pick(&[Costs::Zero, Costs::Few, Costs::Any, Costs::Largest]);
         let (filled, loops) = (random.pick(&[5, 12, 25]), random.pick(&[0, 40]));
-        let (growth, holds) = (random.pick(&[Growth::Chain, Growth::EvenChain]), random.pick(&[0, 10]));
-        let shape = Shape { growth, machines: 8, nodes: 48 + random.below(200), commands: COMMANDS, filled, loops, costs, holds };
+        let (growth, holds, leaves) = (random.pick(&[Growth::Chain, Growth::EvenChain]), random.pick(&[0, 10]), random.pick(&[0, 50, 100]));
+        let shape = Shape { growth, machines: 8, nodes: 48 + random.below(200), commands: COMMANDS, filled, loops, costs, holds, leaves };
         compare(&Holding::random(&mut random, &shape), &mut random, 25);
     }
 }
@@ -99,8 +99,8 @@ fn wide_machines() {
     for seed in 0..8 {
         let mut random = Random::new(9500 + seed);
         let (machines, costs) = (random.pick(&[1, 2, 64]), random.pick(&[Costs::Zero, Costs::Few, Costs::Any]));
-        let holds = random.pick(&[0, 10]);
-        let shape = Shape { growth: Growth::Wide, machines, nodes: 256, commands: 2, filled: 70, loops: 10, costs, holds };
+        let (holds, leaves) = (random.pick(&[0, 10]), random.pick(&[0, 50, 100]));
+        let shape = Shape { growth: Growth::Wide, machines, nodes: 256, commands: 2, filled: 70, loops: 10, costs, holds, leaves };
         compare(&Holding::random(&mut random, &shape), &mut random, 25);
     }
 }
@@ -109,7 +109,7 @@ fn wide_machines() {
 fn full_books() {
     for seed in 0..3 {
         let mut random = Random::new(9900 + seed);
-        let holding = Holding::random(&mut random, &Shape::full());
+        let holding = Holding::random(&mut random, &Shape { leaves: 50 * seed as usize, ..Shape::full() });
         compare(&holding, &mut random, 25);
         let mut other = Holding::ladder();
         other.load(&[himm::REFRESH]);
@@ -118,8 +118,9 @@ fn full_books() {
     }
 }
 
-/// The longest stream: one machine with every node, command and transition, and every hold that may be. Each machine more takes the hold of
-/// its start away, 4 bytes, and refines where a node was added, which is 2 more; without holds the longest has every machine.
+/// The longest stream: every machine, node, command and transition, and every hold and cost of leaving that may be. Each machine less gives
+/// its start a hold, 4 bytes, takes the cost of leaving away, 4 bytes, and adds where a node was refined, which is 2 less. Without costs of
+/// leaving the longest has one machine, and without holds either every machine again.
 #[test]
 fn the_longest_stream() {
     let length = |shape: Shape| {
@@ -128,15 +129,17 @@ fn the_longest_stream() {
         himm::write(&holding.book, &mut vec![0; himm::STREAM_BYTES]).map(|stream| stream.len())
     };
     assert_eq!(length(Shape::longest()), Ok(himm::STREAM_BYTES));
-    for machines in [2, 3, 8, 63, 64] {
-        assert_eq!(length(Shape { machines, ..Shape::longest() }), Ok(himm::STREAM_BYTES + 2 - 2 * machines), "{machines} machines");
+    for machines in [1, 2, 3, 8, 63, 64] {
+        let shape = Shape { machines, ..Shape::longest() };
+        assert_eq!(length(shape), Ok(himm::STREAM_BYTES + 2 * machines - 128), "{machines} machines");
+        assert_eq!(length(Shape { leaves: 0, ..shape }), Ok(34_814 - 2 * machines), "{machines} machines");
     }
     assert_eq!(length(Shape::full()), Ok(33_918));
 }
 
-/// The longest and dearest plan: one machine of 256 nodes in a row, each transition at the largest cost.
+/// The longest plan, and the dearest where no machine is left: one machine of 256 nodes in a row, each transition at the largest cost.
 #[test]
-fn the_dearest_plan() {
+fn the_longest_plan() {
     let row: Vec<u8> = (1..=255).flat_map(|n| [0x11, 0, 0, n]).collect();
     let arrows: Vec<u8> = (0..255).flat_map(|n| [0x14, 0, n, 3, 0, n + 1, 255, 255]).collect();
     let holding = Holding::loaded(&[row, arrows].concat());

@@ -5,7 +5,7 @@ mod common;
 use common::damage::{copy_a_field, put_over, words};
 use common::walkers::Walkers;
 use common::{Holding, View};
-use himm_model::book::{machine_at, node_at};
+use himm_model::book::{hold_at, leave_at, machine_at, node_at};
 use himm_model::random::{Costs, Random, Shape};
 use himm_model::sheet::{machine_row, node_row};
 use himm_model::{BOOK_WORDS, COMMANDS, MACHINES, NODES, SHEET_WORDS};
@@ -32,7 +32,7 @@ fn random_holding(random: &mut Random) -> Holding {
 fn wrong_lengths() {
     let mut random = Random::new(1);
     let good = random_holding(&mut random);
-    for book in [0, 1, BOOK_WORDS - NODES, BOOK_WORDS - 1, BOOK_WORDS, BOOK_WORDS + 1, 10_000] {
+    for book in [0, 1, hold_at(0), leave_at(0), BOOK_WORDS - 1, BOOK_WORDS, BOOK_WORDS + 1, 10_000] {
         for sheet in [0, 1, SHEET_WORDS - 1, SHEET_WORDS, SHEET_WORDS + 1, 10_000] {
             let mut holding = good.clone();
             holding.book.resize(book, 65535);

@@ -39,12 +39,21 @@ fn limits_and_sizes() {
         ("HIMM_LIST_COMMANDS", himm::LIST_COMMANDS),
         ("HIMM_REFRESH", himm::REFRESH as usize),
         ("HIMM_HOLD", himm::HOLD as usize),
+        ("HIMM_LEAVE", himm::LEAVE as usize),
         ("HIMM_SECONDS_TAKEN", himm::raw::HIMM_SECONDS_TAKEN as usize),
         ("HIMM_SECONDS_WAITED", himm::raw::HIMM_SECONDS_WAITED as usize),
     ];
     for (name, value) in numbers {
         assert_eq!(value, defined(name), "{name}");
     }
+}
+
+/// A command climbs past one machine less than there are levels, and a plan has as many commands as its buffer bytes.
+#[test]
+fn largest_costs() {
+    let step = himm::LEVELS * defined("HIMM_LARGEST_COST");
+    assert_eq!((step, defined("HIMM_LARGEST_STEP_COST")), (524_280, 524_280));
+    assert_eq!((himm::PLAN_BYTES * step, defined("HIMM_LARGEST_PLAN_COST")), (133_691_400, 133_691_400));
 }
 
 /// Every opcode is the model's, and the header has no others.
@@ -62,6 +71,7 @@ fn opcodes() {
         ("HIMM_CROWN", Command::Crown { machine, node }),
         ("HIMM_REFRESH", Command::Refresh),
         ("HIMM_HOLD", Command::Hold { node, hold }),
+        ("HIMM_LEAVE", Command::Leave { machine, cost }),
     ];
     for (name, command) in all {
         assert_eq!(command.bytes()[0] as usize, defined(name), "{name}");

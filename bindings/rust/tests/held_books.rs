@@ -3,9 +3,8 @@
 
 mod common;
 
-use common::{counts, hold, Holding};
-use himm_model::book::{encode, hold_at};
-use himm_model::flat::Flat;
+use common::{changed_pairs, counts, hold, last_commands, states, Holding};
+use himm_model::book::encode;
 use himm_model::random::{Growth, Random, Shape};
 use himm_model::sheet::filled;
 use himm_model::stream::Command;
@@ -33,11 +32,6 @@ fn may_be_held(tree: &Tree) -> Vec<usize> {
     (0..NODES).filter(|&n| tree.nodes[n].is_some() && !tree.is_start(n)).collect()
 }
 
-/// The states of a book, as the calls take them.
-fn states(tree: &Tree) -> Vec<u32> {
-    tree.states().into_iter().map(|s| s as u32).collect()
-}
-
 /// Each command that names a node in use, in each of its places, with new numbers where it wants some.
 fn commands_on(tree: &Tree, node: usize) -> Vec<Command> {
     let new = (0..NODES).find(|&n| tree.nodes[n].is_none()).expect("an unused node");
@@ -56,6 +50,7 @@ fn commands_on(tree: &Tree, node: usize) -> Vec<Command> {
         Command::Refresh,
     ];
     all.extend((0..3).map(|hold| Command::Hold { node, hold }));
+    all.extend([owner, machine].map(|machine| Command::Leave { machine, cost: 2 }));
     all.extend((0..COMMANDS).map(|command| Command::Clear { node, command }));
     for (command, other) in (0..COMMANDS).zip(tree.nodes_of(owner).into_iter().cycle()) {
         all.push(Command::Arrow { node, command, target: other, cost: command });
@@ -105,27 +100,14 @@ fn held_nodes(tree: &Tree) -> [usize; 2] {
     [plain, held.len() - plain]
 }
 
-/// For how many pairs of states the least cost is another one by the holds, and for how many there is no way by them.
-fn changed_pairs(tree: &Tree) -> [usize; 2] {
-    let (flat, free) = (Flat::of(&encode(tree)), Flat::of(&encode(&released(tree))));
-    let mut changed = [0; 2];
-    for from in tree.states() {
-        let pairs = flat.costs_from(from).into_iter().zip(free.costs_from(from));
-        pairs.for_each(|(now, before)| changed[now.is_none() as usize] += (now != before) as usize);
-    }
-    changed
-}
-
 /// Plans between every pair of states of some books, and every exit and step. Gives how many nodes were held, plain and refined, and how
 /// many pairs had another cost and no way by the holds.
 fn compare_all(books: impl Iterator<Item = Holding>) -> [usize; 4] {
     let mut sums = [0; 4];
     for holding in books {
-        let (view, tree) = (holding.view(), holding.tree());
-        holding.compare_plans(&view, &states(&tree));
-        holding.compare_exits(&view);
-        holding.compare_steps(&view);
-        let numbers = held_nodes(&tree).into_iter().chain(changed_pairs(&tree));
+        holding.compare_all_pairs();
+        let tree = holding.tree();
+        let numbers = held_nodes(&tree).into_iter().chain(changed_pairs(&tree, &released(&tree)));
         sums.iter_mut().zip(numbers).for_each(|(sum, number)| *sum += number);
     }
     sums
@@ -161,7 +143,8 @@ fn full_books_between_all_pairs() {
     assert!(plain > 20 && refined > 10 && changed > 1_000 && no_way > 1_000, "{sums:?}");
 }
 
-/// The stream of a book with holds, loaded into fresh, ladder and held holdings, and into its own; its holds stand at its end by node.
+/// The stream of a book with holds, loaded into fresh, ladder and held holdings, and into its own; its holds stand at its end by node, with
+/// nothing behind them but costs of leaving.
 #[test]
 fn round_trips() {
     let mut last = Holding::fresh();
@@ -174,8 +157,7 @@ fn round_trips() {
         }
         let mut out = vec![0; himm::STREAM_BYTES];
         let stream = himm::write(&holding.book, &mut out).expect("a well-formed book");
-        let holds: Vec<u8> = (0..NODES).filter(|&n| holding.book[hold_at(n)] == 1).flat_map(|n| [0x1A, 0, n as u8, 1]).collect();
-        assert!(stream.ends_with(&holds));
+        assert!(stream.ends_with(&last_commands(&holding.book)));
         last = holding;
     }
 }

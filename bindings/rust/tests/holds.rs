@@ -2,10 +2,10 @@
 
 mod common;
 
-use common::walkers::Walkers;
-use common::{hex, hold, mast, plan, Holding, View, MAST};
+use common::damage::{each_call, refused_by_each_call};
+use common::{answer, chain_of_pairs, exits, hex, hold, mast, plan, Holding, MAST};
 use himm::{Chosen, Moved, Refusal, Which};
-use himm_model::book::{hold_at, machine_at, node_at};
+use himm_model::book::{hold_at, leave_at, machine_at, node_at};
 use himm_model::sheet::is_stale;
 use himm_model::{BLANK, LEVELS, MACHINES, NODES};
 
@@ -17,14 +17,9 @@ const HOLD_11: &str = "1A 000B 01";
 const HOLD_1: &str = "1A 0001 01";
 const HOLD_2: &str = "1A 0002 01";
 
-/// The exit costs of a machine of the mast book for its commands 0, 1 and 2.
-fn exits(holding: &Holding, machine: u32) -> [Result<u32, Refusal>; 3] {
-    [0, 1, 2].map(|x| himm::exit(&holding.book, &holding.sheet, machine, x))
-}
-
-/// The nodes that have a 1 at the end of the book's words; all others have 0.
+/// The nodes that have a 1 among the book's holds; all others have 0.
 fn held_in(book: &[u32]) -> Vec<usize> {
-    let words = &book[hold_at(0)..];
+    let words = &book[hold_at(0)..leave_at(0)];
     assert!(words.len() == NODES && words.iter().all(|&word| word <= 1));
     (0..NODES).filter(|&n| words[n] == 1).collect()
 }
@@ -160,13 +155,6 @@ fn holds_that_go_and_stay() {
 
 // Refusals and marks.
 
-/// What a load of further commands into the mast book answers: bytes, commands and the refusal or 0.
-fn answer(more: &str) -> (u64, u64, u32) {
-    let mut holding = mast("");
-    let loaded = holding.load(&hex(more));
-    (loaded.bytes, loaded.commands, loaded.number)
-}
-
 #[test]
 fn held_starts() {
     assert_eq!((answer("1A 0000 01"), answer("1A 000A 01")), ((0, 0, HELD_START), (0, 0, HELD_START)));
@@ -198,7 +186,7 @@ fn refusals_in_their_order() {
     for unused in ["1A 0003 01", "1A 0003 00", "1A 00FF 01", "1A 0002 01 13 0002 1A 0002 00", "1A 0002 01 13 0002 16 0002"] {
         assert_eq!(answer(unused).2, 7, "{unused}");
     }
-    for opcode in [0x19].into_iter().chain(0x1B..=0xFF) {
+    for opcode in [0x19].into_iter().chain(0x1C..=0xFF) {
         assert_eq!(answer(&format!("{opcode:02X} 0002 01 00 00 00 00")), (0, 0, 5));
     }
 }
@@ -219,9 +207,7 @@ fn marks() {
 /// In a chain of eight levels with two nodes in each machine, a hold marks the machine of its node and those above it, and no other.
 #[test]
 fn marks_of_all_above() {
-    let chain: Vec<u8> = (0..7).flat_map(|k| [0x12, 0, k, k + 1, 0, k + 1]).collect();
-    let more: Vec<u8> = (0..8).flat_map(|k| [0x11, k, 0, 100 + k]).collect();
-    let good = Holding::loaded(&[chain, more].concat());
+    let good = chain_of_pairs();
     for level in 0..LEVELS {
         for (node, byte) in [(100 + level, 1), (100 + level, 0), (level, 0)] {
             let mut holding = good.clone();
@@ -233,28 +219,6 @@ fn marks_of_all_above() {
 }
 
 // Torn holds.
-
-/// Every call that reads a book, on a book that is torn: 2, and nothing is written.
-fn refused_by_each_call(torn: &Holding, good: &[u32]) {
-    let view = torn.view();
-    assert_eq!((view.book.as_ref().err(), view.whole.as_ref().err()), (Some(&2), Some(&2)));
-    each_call(torn, &view);
-    assert_eq!(torn.clone().load(&[]).number, 2);
-    for (first, second) in [(&torn.book[..], good), (good, &torn.book[..]), (&torn.book, &torn.book)] {
-        assert_eq!(Holding::untouched().merge(first, second), 2);
-    }
-}
-
-/// Each call on a book and its sheet, compared with the model.
-fn each_call(holding: &Holding, view: &View) {
-    holding.compare_exit(view, 0, 1);
-    holding.compare_step(view, 0, 2);
-    holding.compare_plan(view, 0, 2, himm::PLAN_BYTES);
-    holding.compare_write(view);
-    holding.compare_choice(view, 0, 2, &[0, 2, 1], &[2]);
-    holding.clone().load(&[himm::REFRESH]);
-    Walkers::at(1, 1, &[0, 10]).both(&holding.book, &view.book, 0, 2);
-}
 
 /// Each hold of the mast book as another word: over 1 it is torn, and so is 1 at a start or at a node that is not in use.
 #[test]

@@ -315,7 +315,8 @@ fn nearly_full_pairs() {
         let growth = random.pick(&[Growth::Any, Growth::Wide]);
         let (machines, all_machines) = (2 + random.below(60), 62 + random.below(3));
         let (nodes, all_nodes) = (machines + random.below(128), 253 + random.below(3));
-        let shape = Shape { growth, machines, nodes, filled: random.pick(&[10, 60, 100]), holds: random.pick(&[0, 20]), ..Shape::full() };
+        let (filled, holds, leaves) = (random.pick(&[10, 60, 100]), random.pick(&[0, 20]), random.pick(&[0, 50, 100]));
+        let shape = Shape { growth, machines, nodes, filled, holds, leaves, ..Shape::full() };
         let rest = Shape { machines: all_machines - machines, nodes: all_nodes - nodes, ..shape };
         answers.push(compare_pair(&mut random, [shape, rest]));
     }
@@ -328,7 +329,7 @@ fn pairs_of_chains() {
     let mut answers = vec![];
     for seed in 0..40 {
         let mut random = Random::new(42_000 + seed);
-        let shape = Shape { growth: Growth::EvenChain, nodes: 100, filled: 30, ..Shape::full() };
+        let shape = Shape { growth: Growth::EvenChain, nodes: 100, filled: 30, leaves: 70, ..Shape::full() };
         let shapes = [0, 20].map(|holds| Shape { machines: 6 + random.below(3), commands: random.pick(&[2, COMMANDS]), holds, ..shape });
         answers.push(compare_pair(&mut random, shapes));
     }
@@ -340,7 +341,7 @@ fn pairs_of_chains() {
 #[test]
 fn torn_books_word_by_word() {
     let mut random = Random::new(43_000);
-    let shape = Shape { machines: 5, nodes: 14, filled: 60, holds: 20, ..Shape::full() };
+    let shape = Shape { machines: 5, nodes: 14, filled: 60, holds: 20, leaves: 50, ..Shape::full() };
     let (good, other) = (random_book(&mut random, &shape), random_book(&mut random, &shape));
     let mut answers = vec![];
     for at in 0..BOOK_WORDS {

@@ -2,39 +2,17 @@
 
 mod common;
 
+use common::words::{entered, leaving, transition, upward};
 use common::{hex, Holding, MAST, UNTOUCHED_STEP};
-use himm_model::book::{hold_at, machine_at, node_at};
 use himm_model::random::{Costs, Growth, Random, Shape};
-use himm_model::{ABSENT, BLANK, COMMANDS, LEVELS};
+use himm_model::{BLANK, COMMANDS, LEVELS};
 
 /// The refusal of a step where no node has a transition that counts.
 const STOPS: u32 = 17;
 
-/// A state and the nodes that hold it, from the state up: a node has its machine's number, and the machine the number of its holder.
-fn upward(book: &[u32], state: u32) -> Vec<u32> {
-    let holder = |&node: &u32| Some(book[machine_at(book[node_at(node as usize)] as usize)]).filter(|&word| word != ABSENT);
-    std::iter::successors(Some(state), holder).collect()
-}
-
-/// The state that entering a node leads to: a refined node has the number of the machine below it, and that the number of its start.
-fn entered(book: &[u32], node: u32) -> u32 {
-    match book[node_at(node as usize) + 1] {
-        ABSENT => node,
-        machine => entered(book, book[machine_at(machine as usize) + 1]),
-    }
-}
-
-/// The word of a node's transition for a command; `BLANK` also where it is shut, since its target is held.
-fn transition(book: &[u32], node: u32, command: u32) -> u32 {
-    match book[node_at(node as usize) + 2 + command as usize] {
-        BLANK => BLANK,
-        word if book[hold_at(word as usize / 65536)] == 1 => BLANK,
-        word => word,
-    }
-}
-
-/// Judges one step: the node is the state or holds it, the step is that of the node's transition, and no node below it has one. Gives
-/// how many nodes are below it; `None` where the station stops, and then no node has a transition. A shut one counts as none.
+/// Judges one step: the node is the state or holds it, the step is that of the node's transition, with what leaving the machines of the
+/// nodes below it costs, and none of those nodes has a transition. Gives how many nodes are below it; `None` where the station stops, and
+/// then no node has a transition. A shut one counts as none.
 fn judge(holding: &Holding, state: u32, command: u32) -> Option<usize> {
     let (book, nodes) = (&holding.book, upward(&holding.book, state));
     let none_of = |some: &[u32]| some.iter().all(|&node| transition(book, node, command) == BLANK);
@@ -48,7 +26,8 @@ fn judge(holding: &Holding, state: u32, command: u32) -> Option<usize> {
     assert!(none_of(&nodes[..below]), "node {node} acts at {state} by {command}, though a lower one has a transition");
     let word = transition(book, node, command);
     assert_ne!(word, BLANK, "node {node} acts at {state} by {command} without a transition");
-    assert_eq!((next, cost), (entered(book, word / 65536), word % 65536), "another step than that of node {node}");
+    let expected = (entered(book, word / 65536), word % 65536 + leaving(book, &nodes[..below]));
+    assert_eq!((next, cost), expected, "another step than that of node {node}");
     Some(below)
 }
 
@@ -87,8 +66,8 @@ fn chains_of_eight_levels() {
         let mut random = Random::new(52_000 + seed);
         let (filled, loops) = (random.pick(&[5, 12, 25]), random.pick(&[0, 40]));
         let costs = random.pick(&[Costs::Zero, Costs::Any, Costs::Largest]);
-        let holds = random.pick(&[0, 20, 50]);
-        let shape = Shape { growth: Growth::EvenChain, machines: LEVELS, nodes: 64, commands: COMMANDS, filled, loops, costs, holds };
+        let (holds, leaves) = (random.pick(&[0, 20, 50]), random.pick(&[0, 50, 100]));
+        let shape = Shape { growth: Growth::EvenChain, machines: LEVELS, nodes: 64, filled, loops, costs, holds, leaves, ..Shape::full() };
         judge_all(&Holding::random(&mut random, &shape), &mut counts);
     }
     assert!(counts.iter().all(|&count| count > 50), "{counts:?}");
@@ -97,8 +76,8 @@ fn chains_of_eight_levels() {
 #[test]
 fn full_books() {
     let mut counts = [0; LEVELS + 1];
-    for (filled, holds) in [(20, 0), (60, 0), (60, 30), (100, 0), (100, 60)] {
-        let shape = Shape { filled, holds, ..Shape::full() };
+    for (filled, holds, leaves) in [(20, 0, 100), (60, 0, 0), (60, 30, 50), (100, 0, 100), (100, 60, 100)] {
+        let shape = Shape { filled, holds, leaves, ..Shape::full() };
         judge_all(&Holding::random(&mut Random::new(53_000), &shape), &mut counts);
     }
     assert!(counts[0] > 5_000 && counts[1] > 500, "{counts:?}");

@@ -1,7 +1,7 @@
 //! Streams that are kept as the library once wrote them: every later library takes them whole, comes to the same station and writes the
 //! same bytes. In `tests/stored` a stream stands in NAME.stream, and the station that it leaves beside it as text in NAME.station: a line
-//! for the root, for each machine with its start and holder, and for each node with its machine, whether it is held, the machine below it
-//! and its transitions, each as command>target/cost.
+//! for the root, for each machine with its start, its holder and what leaving it costs, if that is not 0, and for each node with its
+//! machine, whether it is held, the machine below it and its transitions, each as command>target/cost.
 
 mod common;
 
@@ -12,10 +12,11 @@ use himm_model::tree::{Node, Tree};
 use himm_model::{COMMANDS, MACHINES, NODES};
 use std::path::PathBuf;
 
-/// A name, and how its book was made when it was stored. The two edited ones are from random edits without holds.
+/// A name, and how its book was made when it was stored. The two edited ones are from random edits without
+/// holds and costs of leaving.
 type Book = (&'static str, fn() -> Holding);
 
-const BOOKS: [Book; 17] = [
+const BOOKS: [Book; 19] = [
     ("fresh", Holding::fresh),
     ("ladder", Holding::ladder),
     ("mast", || mast("")),
@@ -33,6 +34,8 @@ const BOOKS: [Book; 17] = [
     ("highest-numbers", || Holding::loaded(&highest())),
     ("mast-with-holds", || mast("1A 0002 01 1A 000B 01")),
     ("holds", || of_shape(11, Shape { machines: 12, nodes: 40, filled: 40, holds: 30, ..Shape::full() })),
+    ("mast-with-leave", || mast("1A 000B 01 1B 01 FF07")),
+    ("leaves", || of_shape(12, Shape { machines: 12, nodes: 40, filled: 40, holds: 10, leaves: 70, ..Shape::full() })),
 ];
 
 /// A random book, with gaps in its numbers where the shape leaves some.
@@ -87,7 +90,8 @@ fn station(tree: &Tree) -> String {
     for m in tree.machines_in_use() {
         let machine = tree.machine(m);
         let held = machine.holder.map_or(String::new(), |n| format!(" held by {n}"));
-        text += &format!("machine {m}{held}: start {}\n", machine.start);
+        let leave = if machine.leave == 0 { String::new() } else { format!(", leave {}", machine.leave) };
+        text += &format!("machine {m}{held}: start {}{leave}\n", machine.start);
     }
     for (n, node) in tree.nodes.iter().enumerate() {
         text += &node.as_ref().map_or(String::new(), |node| format!("node {n} {}\n", record(node)));

@@ -102,7 +102,7 @@ fn cut_and_unknown() {
 #[test]
 fn operands_at_the_edges() {
     let mut random = Random::new(25_000);
-    let shape = Shape { machines: 6, nodes: 20, holds: 20, ..Shape::full() };
+    let shape = Shape { machines: 6, nodes: 20, holds: 20, leaves: 50, ..Shape::full() };
     let holding = Holding::random(&mut random, &shape);
     let nodes: Vec<usize> = [0, 255, 256, 65535].into_iter().chain(holding.tree().states().into_iter().take(2)).collect();
     for &node in &nodes {
@@ -127,6 +127,7 @@ fn edge_cases(holding: &Holding, node: usize, machine: usize, other: usize, comm
         Command::Clear { node, command },
         Command::Start { node },
         Command::Crown { machine, node },
+        Command::Leave { machine, cost: other },
     ];
     all.into_iter().for_each(|edit| load_and_refresh(holding, edit));
 }

@@ -423,17 +423,19 @@ impl Courses {
 
 #[test]
 fn random_books() {
-    let (mut courses, mut held) = (Courses::default(), 0);
+    let (mut courses, mut held, mut left) = (Courses::default(), 0, 0);
     for seed in 0..250 {
         let mut random = Random::new(81_000 + seed);
         let shape = Shape { commands: COMMANDS, ..Shape::random(&mut random) };
         let book = Book::random(&mut random, &shape);
         held += book.tree().nodes_on_hold().len();
+        left += book.tree().machines_with_leave().len();
         let (states, refined) = (book.states(), book.refined());
         courses.wander(&book, random.pick(&states), &mut random, 300);
         courses.wander(&book, random.pick(if refined.is_empty() { &states } else { &refined }), &mut random, 600);
     }
-    assert!(courses.0.iter().all(|&count| count > 300) && held > 200, "{courses:?}, {held} held nodes");
+    assert!(courses.0.iter().all(|&count| count > 300), "{courses:?}");
+    assert!(held > 200 && left > 200, "{held} held nodes, {left} machines that cost something to leave");
 }
 
 /// Every node of small books, and of chains of eight levels, as the one that is limited.
@@ -445,19 +447,19 @@ fn every_node() {
         let growth = random.pick(&[Growth::Any, Growth::Wide, Growth::EvenChain]);
         let machines = if growth == Growth::EvenChain { LEVELS } else { 2 + random.below(6) };
         let (filled, loops, holds) = (random.pick(&[10, 30, 60]), random.pick(&[0, 20]), random.pick(&[0, 10, 30]));
-        let book = Book::random(&mut random, &Shape { growth, machines, nodes: 24, filled, loops, holds, ..Shape::full() });
+        let book = Book::random(&mut random, &Shape { growth, machines, nodes: 24, filled, loops, holds, leaves: 50, ..Shape::full() });
         book.nodes(|_| true).into_iter().for_each(|node| courses.wander(&book, node, &mut random, 300));
     }
     assert!(courses.0.iter().all(|&count| count > 300), "{courses:?}");
 }
 
-/// The largest books, with holds and without, and nodes of the root, where most walkers come by.
+/// The largest books, with holds and costs of leaving and without, and nodes of the root, where most walkers come by.
 #[test]
 fn full_books() {
     let mut courses = Courses::default();
     for (seed, holds) in [(0, 0), (1, 10), (2, 40)] {
         let mut random = Random::new(83_000 + seed);
-        let book = Book::random(&mut random, &Shape { filled: 60, holds, ..Shape::full() });
+        let book = Book::random(&mut random, &Shape { filled: 60, holds, leaves: 2 * holds, ..Shape::full() });
         let root = book.tree().root;
         let nodes: Vec<u32> = book.tree().nodes_of(root).into_iter().map(|n| n as u32).collect();
         nodes.into_iter().chain(book.refined().into_iter().take(20)).for_each(|node| courses.wander(&book, node, &mut random, 200));
@@ -486,7 +488,7 @@ fn both_calls(words: &[u32], (walkers, walker, command): &(Walkers, u32, u32)) -
 #[test]
 fn torn_books_word_by_word() {
     let mut random = Random::new(84_000);
-    let good = Book::random(&mut random, &Shape { machines: 5, nodes: 14, filled: 60, holds: 20, ..Shape::full() });
+    let good = Book::random(&mut random, &Shape { machines: 5, nodes: 14, filled: 60, holds: 20, leaves: 50, ..Shape::full() });
     let mut answers = vec![];
     for at in 0..BOOK_WORDS {
         for word in words(&mut random, good.words[at]) {
@@ -503,7 +505,7 @@ fn torn_books_word_by_word() {
 #[test]
 fn torn_books_by_copying() {
     let mut answers = vec![];
-    for seed in 0..1500 {
+    for seed in 0..2500 {
         let mut random = Random::new(85_000 + seed);
         let shape = Shape { commands: COMMANDS, nodes: 20, machines: 1 + random.below(8), ..Shape::random(&mut random) };
         let good = Book::random(&mut random, &shape);

@@ -22,6 +22,7 @@ emptyTree top =
       holder = λ m. none;
       transition = λ n x. none;
       hold = λ n. 0;
+      leave = λ m. 0;
     }
 
 -- nothing is marked, and all is blank

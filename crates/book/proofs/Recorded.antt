@@ -8,11 +8,11 @@ use lib.ListN.{length}
 use Rattle.definitions.specs.Basics.{put}
 use borrow.Author.Tests.{eq-eqb, ne-eqb}
 use Rattle.definitions.specs.Limits.{machines, nodes}
-use Rattle.definitions.specs.Tree.{Tree, withRoot, withNodeHold}
+use Rattle.definitions.specs.Tree.{Tree, withRoot, withNodeHold, withLeave}
 use Rattle.definitions.specs.Book.{word, number, machineField, nodeField, machineFields, nodeFields, encode, treeOf}
 use Rattle.definitions.specs.Edit.{withTransition}
 use Rattle.definitions.proofs.Options.{equal-or-not, put-same, put-other}
-use Rattle.definitions.proofs.Words.{word-number, word-transition, encode-is, treeOf-machine, treeOf-node, treeOf-hold}
+use Rattle.definitions.proofs.Words.{word-number, word-transition, encode-is, treeOf-machine, treeOf-node, treeOf-hold, treeOf-leave}
 use Rattle.book.specs.Fields.{Holds, withMachineField, withNodeField}
 use Rattle.book.specs.Recorded.{Recorded}
 
@@ -65,6 +65,17 @@ node-machine t n (suc zero) v i (suc j) = refl
 node-machine t n (suc (suc x)) v i zero = refl
 node-machine t n (suc (suc x)) v i (suc j) = refl
 
+-- it leaves the leaving costs; and a leaving cost leaves the machines
+node-leave : (t : Tree) (n k v i : ℕ) → withNodeField t n k v .leave i ≡ t .leave i
+unfolding withTransition
+node-leave t n zero v i = refl
+node-leave t n (suc zero) v i = refl
+node-leave t n (suc (suc x)) v i = refl
+
+leave-machine : (t : Tree) (m c i j : ℕ) → machineField (withLeave t m c) i j ≡ machineField t i j
+leave-machine t m c i zero = refl
+leave-machine t m c i (suc j) = refl
+
 -- it leaves the holds; and a hold leaves all else
 node-hold : (t : Tree) (n k v i : ℕ) → withNodeField t n k v .hold i ≡ t .hold i
 unfolding withTransition
@@ -90,21 +101,30 @@ recorded-root ws t stored =
       size = stored .length;
       root = ap (λ (u : Tree). u .root) (stored .tree);
       machine = λ i j h. absurd (omega arith);
+      leave = λ i h. absurd (omega arith);
       node = λ i j h. absurd (omega arith);
       hold = λ i h. absurd (omega arith);
       here = λ j h. absurd (omega arith);
     }
 
 module _ {t : Tree} {ws after : List ℕ} where
-  -- one machine more: both of its words
-  pub recorded-machine : {mid : List ℕ} {m v w : ℕ} → Recorded ws t m 0 0 → Holds mid (withMachineField (treeOf ws) m 0 v)
-      → Holds after (withMachineField (treeOf mid) m 1 w) → v ≡ machineField t m 0 → w ≡ machineField t m 1 → Recorded after t (m + 1) 0 0
-  recorded-machine {mid} {m} {v} {w} less first second ev ew =
+  -- one machine more: both of its words, and what leaving it costs
+  pub recorded-machine : {mid more : List ℕ} {m v w c : ℕ} → Recorded ws t m 0 0 → Holds mid (withMachineField (treeOf ws) m 0 v)
+      → Holds more (withMachineField (treeOf mid) m 1 w) → Holds after (withLeave (treeOf more) m c) → v ≡ machineField t m 0
+      → w ≡ machineField t m 1 → c ≡ t .leave m → Recorded after t (m + 1) 0 0
+  recorded-machine {mid} {more} {m} {v} {w} {c} less first second third ev ew ec =
+      let whole : treeOf after ≡ withLeave (withMachineField (withMachineField (treeOf ws) m 0 v) m 1 w) m c =
+      third .tree ∙ ap (λ u. withLeave u m c) (second .tree ∙ ap (λ u. withMachineField u m 1 w) (first .tree)) in
       record {
-        size = second .length;
-        root = ap (λ (u : Tree). u .root) (second .tree ∙ ap (λ u. withMachineField u m 1 w) (first .tree)) ∙ less .root;
+        size = third .length;
+        root = ap (λ (u : Tree). u .root) whole ∙ less .root;
+        leave = λ i h.
+            ap (λ (u : Tree). u .leave i) whole
+            ∙ ⊎-elim (λ same. ap (put (treeOf ws .leave) m c) same ∙ put-same (treeOf ws .leave) m c ∙ ec ∙ ap (t .leave) (sym same))
+            (λ other. put-other (treeOf ws .leave) m c i other ∙ less .leave i (omega (arith, other))) (equal-or-not i m);
         machine = λ i j h hj.
-            ap (λ u. machineField u i j) (second .tree ∙ ap (λ u. withMachineField u m 1 w) (first .tree))
+            ap (λ u. machineField u i j) whole
+            ∙ leave-machine (withMachineField (withMachineField (treeOf ws) m 0 v) m 1 w) m c i j
             ∙ ⊎-elim (λ e. rw e (both j hj))
             (λ other.
             machine-other (withMachineField (treeOf ws) m 0 v) m 1 w i j other
@@ -129,6 +149,7 @@ module _ {t : Tree} {ws after : List ℕ} where
         size = stored .length;
         root = ap (λ (u : Tree). u .root) (stored .tree) ∙ node-root (treeOf ws) n k v ∙ less .root;
         machine = λ i j h hj. ap (λ u. machineField u i j) (stored .tree) ∙ node-machine (treeOf ws) n k v i j ∙ less .machine i j h hj;
+        leave = λ i h. ap (λ (u : Tree). u .leave i) (stored .tree) ∙ node-leave (treeOf ws) n k v i ∙ less .leave i h;
         node = λ i j h hj.
             ap (λ u. nodeField u i j) (stored .tree)
             ∙ node-other (treeOf ws) n k v i j (λ same at. omega (arith, same, h))
@@ -149,6 +170,7 @@ module _ {t : Tree} {ws after : List ℕ} where
         size = stored .length;
         root = ap (λ (u : Tree). u .root) (stored .tree) ∙ less .root;
         machine = λ i j h hj. ap (λ u. machineField u i j) (stored .tree) ∙ hold-machine (treeOf ws) n v i j ∙ less .machine i j h hj;
+        leave = λ i h. ap (λ (u : Tree). u .leave i) (stored .tree) ∙ less .leave i h;
         node = λ i j h hj.
             ap (λ u. nodeField u i j) (stored .tree)
             ∙ hold-node (treeOf ws) n v i j
@@ -177,4 +199,4 @@ module _ {ws : List ℕ} {t : Tree} where
   recorded-all all =
       encode-is ws t (all .size) (all .root) (λ m k hm hk. sym (treeOf-machine ws m k hm hk) ∙ all .machine m k hm hk)
       (λ n k hn hk. sym (treeOf-node ws n k hn hk) ∙ all .node n k hn hk)
-      (λ n hn. sym (treeOf-hold ws n hn) ∙ all .hold n hn)
+      (λ n hn. sym (treeOf-hold ws n hn) ∙ all .hold n hn) (λ m hm. sym (treeOf-leave ws m hm) ∙ all .leave m hm)

@@ -10,8 +10,8 @@ use lib.ListN.{length, getD, set, length-set}
 use lib.Seq.{getD-set-same, getD-set-other}
 use Rattle.definitions.specs.Basics.{put}
 use Rattle.definitions.specs.Limits.{machines, nodes, commands, bookLength}
-use Rattle.definitions.specs.Tree.{Tree, Transition, withRoot, withNodes, withMachines, withTransitions, withNodeHold}
-use Rattle.definitions.specs.Book.{machineFields, nodeFields, machineBase, nodeBase, holdBase, machineWord, nodeWord, holdWord}
+use Rattle.definitions.specs.Tree.{Tree, Transition, withRoot, withNodes, withMachines, withTransitions, withNodeHold, withLeave}
+use Rattle.definitions.specs.Book.{machineFields, nodeFields, machineBase, nodeBase, holdBase, leaveBase, machineWord, nodeWord, holdWord, leaveWord}
 use Rattle.definitions.specs.Book.{number, transitionOf, under, treeOf}
 use Rattle.definitions.specs.Edit.{withTransition}
 use Rattle.definitions.proofs.Words.{same-tree}
@@ -49,7 +49,12 @@ hold-far : (ws : List ℕ) (p v : ℕ) → p < holdBase → (n : ℕ) → treeOf
 unfolding treeOf holdWord
 hold-far ws p v h n = ap (λ w. cond (ltb n nodes) w 0) (getD-set-other ws p (holdBase + n) v 0 (omega arith))
 
--- a store among the holds leaves the nodes' words
+-- and one before the leaving costs leaves these
+leave-far : (ws : List ℕ) (p v : ℕ) → p < leaveBase → (m : ℕ) → treeOf (set ws p v) .leave m ≡ treeOf ws .leave m
+unfolding treeOf leaveWord
+leave-far ws p v h m = ap (λ w. cond (ltb m machines) w 0) (getD-set-other ws p (leaveBase + m) v 0 (omega arith))
+
+-- a store among the holds or behind them leaves the nodes' words
 node-same : (ws : List ℕ) (p v : ℕ) → holdBase ≤ p → (n k : ℕ) → n < nodes → k < nodeFields → nodeWord (set ws p v) n k ≡ nodeWord ws n k
 unfolding nodeWord
 node-same ws p v h n k hn hk = getD-set-other ws p (nodePlace n k) v 0 (omega arith)
@@ -57,7 +62,7 @@ node-same ws p v h n k hn hk = getD-set-other ws p (nodePlace n k) v 0 (omega ar
 -- a store before the nodes' words leaves what is said of nodes
 nodes-stay : (ws : List ℕ) (p v : ℕ) → p < nodeBase → {root : ℕ} {start holder : ℕ → Option ℕ} → treeOf (set ws p v) .root ≡ root
     → ((m : ℕ) → treeOf (set ws p v) .start m ≡ start m) → ((m : ℕ) → treeOf (set ws p v) .holder m ≡ holder m)
-    → treeOf (set ws p v) ≡ withMachines (withRoot (treeOf ws) root) start holder
+    → treeOf (set ws p v) ≡ withMachines (withRoot (treeOf ws) root) start holder (treeOf ws .leave)
 unfolding treeOf
 nodes-stay ws p v hi root start holder =
     same-tree _ _ root
@@ -65,17 +70,17 @@ nodes-stay ws p v hi root start holder =
     (λ n. node-far ws p v hi (λ w. under nodes n (number w)) n 1)
     start holder
     (λ n x. node-far ws p v hi (λ w. under nodes n (under commands x (transitionOf w))) n (2 + x))
-    (hold-far ws p v (omega arith))
+    (hold-far ws p v (omega arith)) (leave-far ws p v (omega arith))
 
 -- a store among the nodes' words and the holds leaves the root and what is said of machines
-machines-stay : (ws : List ℕ) (p v : ℕ) → nodeBase ≤ p → {owner below : ℕ → Option ℕ} {transition : ℕ → ℕ → Option Transition}
+machines-stay : (ws : List ℕ) (p v : ℕ) → nodeBase ≤ p → p < leaveBase → {owner below : ℕ → Option ℕ} {transition : ℕ → ℕ → Option Transition}
     → {hold : ℕ → ℕ} → ((n : ℕ) → treeOf (set ws p v) .owner n ≡ owner n) → ((n : ℕ) → treeOf (set ws p v) .below n ≡ below n)
     → ((n x : ℕ) → treeOf (set ws p v) .transition n x ≡ transition n x) → ((n : ℕ) → treeOf (set ws p v) .hold n ≡ hold n)
     → treeOf (set ws p v) ≡ withNodes (treeOf ws) owner below transition hold
 unfolding treeOf
-machines-stay ws p v h owner below transition holds =
+machines-stay ws p v h until owner below transition holds =
     same-tree _ _ (getD-set-other ws p 0 v 0 (omega arith)) owner below
-    (λ m. machine-far ws p v 1 m (omega arith)) (λ m. machine-far ws p v 0 m (omega arith)) transition holds
+    (λ m. machine-far ws p v 1 m (omega arith)) (λ m. machine-far ws p v 0 m (omega arith)) transition holds (leave-far ws p v until)
 
 -- the root is written
 pub root-store : (ws : List ℕ) (m : ℕ) → length ws ≡ bookLength → treeOf (set ws 0 m) ≡ withRoot (treeOf ws) m
@@ -103,20 +108,20 @@ pub node-store : (ws : List ℕ) (n k v : ℕ) → length ws ≡ bookLength → 
     → treeOf (set ws (nodePlace n k) v) ≡ withNodeField (treeOf ws) n k v
 unfolding treeOf nodeWord under withTransition
 node-store ws n zero v l hn hk =
-    machines-stay ws (nodePlace n 0) v (omega arith)
+    machines-stay ws (nodePlace n 0) v (omega arith) (omega arith)
     (field-put nodePlace nodeFields node-apart ws n 0 v hk (omega arith) nodes number none hn)
     (field-kept nodePlace nodeFields node-apart ws n 0 v hk (omega arith) nodes 1 number none (omega arith) (omega arith))
     (grid-kept nodePlace nodeFields node-apart ws n 0 v hk (omega arith) nodes commands 2 transitionOf (omega arith) (omega arith))
     (hold-far ws (nodePlace n 0) v (omega arith))
 node-store ws n (suc zero) v l hn hk =
-    machines-stay ws (nodePlace n 1) v (omega arith)
+    machines-stay ws (nodePlace n 1) v (omega arith) (omega arith)
     (field-kept nodePlace nodeFields node-apart ws n 1 v hk (omega arith) nodes 0 number none (omega arith) (omega arith))
     (field-put nodePlace nodeFields node-apart ws n 1 v hk (omega arith) nodes number none hn)
     (grid-kept nodePlace nodeFields node-apart ws n 1 v hk (omega arith) nodes commands 2 transitionOf (omega arith) (omega arith))
     (hold-far ws (nodePlace n 1) v (omega arith))
 node-store ws n (suc (suc x)) v l hn hk =
     let k : ℕ = suc (suc x) in
-    machines-stay ws (nodePlace n k) v (omega arith)
+    machines-stay ws (nodePlace n k) v (omega arith) (omega arith)
     (field-kept nodePlace nodeFields node-apart ws n k v hk (omega arith) nodes 0 number none (omega arith) (omega arith))
     (field-kept nodePlace nodeFields node-apart ws n k v hk (omega arith) nodes 1 number none (omega arith) (omega arith))
     (grid-put nodePlace nodeFields node-apart ws n k v hk (omega arith) nodes commands 2 x transitionOf hn (omega arith) (omega arith)
@@ -128,11 +133,25 @@ hold-store : (ws : List ℕ) (n v : ℕ) → length ws ≡ bookLength → n < no
 unfolding treeOf under holdWord
 hold-store ws n v l hn =
     let p : ℕ = holdBase + n in
-    machines-stay ws p v (omega arith) (λ i. kept nodes i number none (λ hi. node-same ws p v (omega arith) i 0 hi (omega arith)))
+    machines-stay ws p v (omega arith) (omega arith) (λ i. kept nodes i number none (λ hi. node-same ws p v (omega arith) i 0 hi (omega arith)))
     (λ i. kept nodes i number none (λ hi. node-same ws p v (omega arith) i 1 hi (omega arith)))
     (λ i x. kept-grid nodes commands i x transitionOf (λ hi hx. node-same ws p v (omega arith) i (2 + x) hi (omega arith)))
     (changed nodes n v (λ w. w) 0 (λ i. getD ws (holdBase + i) 0) (λ i. getD (set ws p v) (holdBase + i) 0) hn
     (getD-set-same ws p v 0 (omega arith)) (λ i hi other. getD-set-other ws p (holdBase + i) v 0 (λ same. other (omega arith))))
+
+-- the leaving cost of machine m is written
+leave-store : (ws : List ℕ) (m v : ℕ) → length ws ≡ bookLength → m < machines → treeOf (set ws (leaveBase + m) v) ≡ withLeave (treeOf ws) m v
+unfolding treeOf under holdWord leaveWord
+leave-store ws m v l hm =
+    let p : ℕ = leaveBase + m in
+    same-tree _ _ (getD-set-other ws p 0 v 0 (omega arith))
+    (λ i. kept nodes i number none (λ hi. node-same ws p v (omega arith) i 0 hi (omega arith)))
+    (λ i. kept nodes i number none (λ hi. node-same ws p v (omega arith) i 1 hi (omega arith)))
+    (λ i. machine-far ws p v 1 i (omega arith)) (λ i. machine-far ws p v 0 i (omega arith))
+    (λ i x. kept-grid nodes commands i x transitionOf (λ hi hx. node-same ws p v (omega arith) i (2 + x) hi (omega arith)))
+    (λ i. kept nodes i (λ w. w) 0 (λ hi. getD-set-other ws p (holdBase + i) v 0 (omega arith)))
+    (changed machines m v (λ w. w) 0 (λ i. getD ws (leaveBase + i) 0) (λ i. getD (set ws p v) (leaveBase + i) 0) hm
+    (getD-set-same ws p v 0 (omega arith)) (λ i hi other. getD-set-other ws p (leaveBase + i) v 0 (λ same. other (omega arith))))
 
 -- ---- the same, of the code's indices
 
@@ -154,6 +173,10 @@ node-holds ws n k v l hn hk =
 pub hold-holds : (ws : List ℕ) (n v : ℕ) → length ws ≡ bookLength → n < nodes
     → Holds (set ws (4737 + n) v) (withNodeHold (treeOf ws) n v)
 hold-holds ws n v l hn = record { length = length-set ws (4737 + n) v ∙ l; tree = hold-store ws n v l hn }
+
+pub leave-holds : (ws : List ℕ) (m v : ℕ) → length ws ≡ bookLength → m < machines
+    → Holds (set ws (4993 + m) v) (withLeave (treeOf ws) m v)
+leave-holds ws m v l hm = record { length = length-set ws (4993 + m) v ∙ l; tree = leave-store ws m v l hm }
 
 -- ---- one store after the other
 

@@ -31,7 +31,7 @@ withNodeField t n (suc (suc x)) v = withTransition t n x (transitionOf v)
 
 -- the tree where nothing is said of machine m, and the same of node n: an unused record
 abbrev pub withoutMachine : Tree → ℕ → Tree
-withoutMachine t m = withMachines t (put (t .start) m none) (put (t .holder) m none)
+withoutMachine t m = withMachines t (put (t .start) m none) (put (t .holder) m none) (put (t .leave) m 0)
 
 abbrev pub withoutNode : Tree → ℕ → Tree
 withoutNode t n = withNodes t (put (t .owner) n none) (put (t .below) n none) (put (t .transition) n (λ x. none)) (put (t .hold) n 0)

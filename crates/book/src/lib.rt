@@ -1,10 +1,10 @@
-// The words of a book (document 01, "Book and sheet in memory"; document 02, W-205), read and written one at a time. A book here has its 4,993
+// The words of a book (document 01, "Book and sheet in memory"; document 02, W-205, W-207), read and written one at a time. A book here has its 5,057
 // words, and numbers are in range; what a word says is then what the book's tree says, and a store changes one field of that tree.
 ghost use mathlib.Core.Path.{_≡_};
 ghost use Prim.Native.Nat.{_/_, _%_, _<_};
 ghost use lib.ListN.{length, getD};
 ghost use Rattle.definitions.specs.Limits.{machines, nodes, commands, costs, bookLength};
-ghost use Rattle.definitions.specs.Tree.{withRoot, withHolder, withStartOf, withOwner, withBelow, withNodeHold, onHold};
+ghost use Rattle.definitions.specs.Tree.{withRoot, withHolder, withStartOf, withOwner, withBelow, withNodeHold, withLeave, onHold};
 ghost use Rattle.definitions.specs.Book.{word, transitionWord, machineFields, nodeFields, machineField, nodeField, treeOf};
 ghost use Rattle.definitions.specs.Book.{number, transitionOf, WellFormed};
 ghost use Rattle.definitions.specs.Step.{counting};
@@ -13,10 +13,12 @@ ghost use Rattle.book.specs.Fields.{Holds, withoutTransitions};
 ghost use Rattle.book.specs.Fields.{withMachineField, withNodeField, withoutMachine, withoutNode};
 
 // The words of a book.
-pub const BOOK: usize = 4993;
+pub const BOOK: usize = 5057;
 
-// Where the holds begin.
+// Where the holds and the leaving costs begin.
 const HOLDS: usize = 4737;
+
+const LEAVES: usize = 4993;
 
 // How many machines, nodes and commands there are.
 pub const MACHINES: u32 = 64;
@@ -123,6 +125,15 @@ pub fn hold(book: &[u32], n: u32) -> u32
     book[i]
 }
 
+// What leaving machine m costs.
+pub fn leave(book: &[u32], m: u32) -> u32
+    requires { ⌜ (length (now book) ≡ bookLength) × (m < machines) ⌝ }
+    ensures { λ r. ⌜ r ≡ treeOf (now (book .entry)) .leave m ⌝ }
+{
+    let i = LEAVES + (m as usize);
+    book[i]
+}
+
 // Whether a hold shuts the transition of a word: its target is held. Of BLANK, too, that is some node; whether it is held makes no difference,
 // since BLANK counts for none either way.
 pub fn shut(book: &[u32], w: u32) -> bool
@@ -216,13 +227,23 @@ pub fn set_hold(book: &mut [u32], n: u32, v: u32)
     book[i] = v;
 }
 
-// Leaves machine m's record as an unused one has it.
+// Makes v what leaving machine m costs.
+pub fn set_leave(book: &mut [u32], m: u32, v: u32)
+    requires { ⌜ (length (now book) ≡ bookLength) × (m < machines) ⌝ }
+    ensures { λ r. ⌜ Holds (now (book .exit)) (withLeave (treeOf (now (book .entry))) m v) ⌝ }
+{
+    let i = LEAVES + (m as usize);
+    book[i] = v;
+}
+
+// Leaves machine m's record and its leaving cost as an unused one has them.
 pub fn clear_machine(book: &mut [u32], m: u32)
     requires { ⌜ (length (now book) ≡ bookLength) × (m < machines) ⌝ }
     ensures { λ r. ⌜ Holds (now (book .exit)) (withoutMachine (treeOf (now (book .entry))) m) ⌝ }
 {
     set_holder(book, m, ABSENT);
     set_start(book, m, ABSENT);
+    set_leave(book, m, 0);
 }
 
 // Leaves node n no transition.

@@ -37,7 +37,7 @@ fn same(a: &Book, b: &Book) -> u32 {
 }
 
 // Copies a book by its stream into the ladder's holding, and writes the stream's length, or the refusal, and whether the words are the same.
-fn show_copy(text: &[u8], book: &Book, out: &mut [u8; 76]) {
+fn show_copy(text: &[u8], book: &Book, out: &mut [u8; 80]) {
     let mut other = [0u32; book::BOOK];
     let mut sheet = [0u32; sheet::SHEET];
     open_ladder(&mut other, &mut sheet);
@@ -49,7 +49,7 @@ fn show_copy(text: &[u8], book: &Book, out: &mut [u8; 76]) {
 }
 
 // The number that a copy answers.
-fn copy(book: &Book, out: &mut [u8; 76], other: &mut Book, sheet: &mut Sheet) -> u32 {
+fn copy(book: &Book, out: &mut [u8; 80], other: &mut Book, sheet: &mut Sheet) -> u32 {
     match copying::copy(book, out, other, sheet) {
         WriteAnswer::Written(n) => n,
         WriteAnswer::Refused(k) => k,
@@ -96,8 +96,8 @@ fn write_front(text: &[u8], book: &[u32], out: &mut [u8], room: usize) {
     }
 }
 
-// The same for a list of 76 bytes.
-fn show_write(text: &[u8], book: &Book, out: &mut [u8; 76], room: usize) {
+// The same for a list of 80 bytes.
+fn show_write(text: &[u8], book: &Book, out: &mut [u8; 80], room: usize) {
     write_front(text, book, out, room);
 }
 
@@ -137,6 +137,15 @@ fn show_torn(book: &mut Book) {
     tear(b"hold of the last node, which is unused: ", book, 4992, 1);
     tear(b"held start: ", book, 4747, 1);
     tear(b"held start of the root: ", book, 4737, 1);
+    tear(b"charge out of range: ", book, 4994, 65536);
+    tear(b"charge of the root: ", book, 4993, 1);
+    tear(b"charge of an unused machine: ", book, 4995, 1);
+    tear(
+        b"charge of the last machine, which is unused: ",
+        book,
+        5056,
+        1,
+    );
 }
 
 // The number in 64 bits.
@@ -145,9 +154,9 @@ fn wide(x: u8) -> u64 {
 }
 
 // Writes bytes in hexadecimal.
-fn dump(bytes: &[u8; 76]) {
+fn dump(bytes: &[u8; 80]) {
     let mut i = 0usize;
-    while i < 76 {
+    while i < 80 {
         let b = bytes[i];
         io::print_hex(STDOUT_FILENO, wide(b), 2);
         i += 1;
@@ -197,13 +206,13 @@ fn show_short(book: &Book) {
 // Node 11 held, by its word: the transition into it is shut for a step and for Choose, and the stream ends with the hold. Where node 1 has a
 // transition for command 2 the command climbs there from node 10.
 fn show_hold(book: &mut Book) {
-    let mut out = [255u8; 76];
+    let mut out = [255u8; 80];
     show_step(b"step 10 by 2: ", book, 10, 2);
     book[4748] = 1;
     show_step(b"step 10 by 2, 11 held: ", book, 10, 2);
     show_step(b"step 11 by 1, 11 held: ", book, 11, 1);
     show_choice(b"choose past it: ", book, 0, 2, b"\x02", b"\x00\x02\x01");
-    show_write(b"write the hold: ", book, &mut out, 76);
+    show_write(b"write the hold: ", book, &mut out, 80);
     dump(&out);
     show_write(b"\nwrite it into 73: ", book, &mut out, 73);
     show_copy(b"copied with the hold: ", book, &mut out);
@@ -211,6 +220,42 @@ fn show_hold(book: &mut Book) {
     show_step(b"climb past node 11: ", book, 10, 2);
     book[151] = 4294967295;
     book[4748] = 0;
+}
+
+// A machine 2 below node 11, which enters at node 20. Leaving machine 1 costs 9 and machine 2 4: a step pays for each machine that the command
+// climbs past, not for the one whose node acts, nor for one that it enters. Write puts the charges after the holds.
+fn show_leaving(book: &mut Book) {
+    let mut out = [255u8; 80];
+    book[5] = 11;
+    book[6] = 20;
+    book[328] = 2;
+    book[489] = 2;
+    book[4994] = 9;
+    book[4995] = 4;
+    show_step(b"step 20 by 1 leaves two: ", book, 20, 1);
+    show_step(b"step 10 by 1 leaves none: ", book, 10, 1);
+    show_step(b"step 10 by 2 enters: ", book, 10, 2);
+    show_step(b"step 20 by 0 stops: ", book, 20, 0);
+    show_choice(
+        b"choose the dearer end: ",
+        book,
+        0,
+        2,
+        b"\x02",
+        b"\x00\x02\x01",
+    );
+    book[328] = 65535;
+    book[489] = 65535;
+    book[5] = 65535;
+    book[6] = 65535;
+    book[4995] = 0;
+    book[4748] = 1;
+    show_write(b"write hold and charge: ", book, &mut out, 80);
+    dump(&out);
+    show_write(b"\nwrite them into 77: ", book, &mut out, 77);
+    show_copy(b"copied with both: ", book, &mut out);
+    book[4748] = 0;
+    book[4994] = 0;
 }
 
 fn main() {
@@ -228,8 +273,8 @@ fn main() {
     show_step(b"step 65536: ", &book, 65536, 0);
     show_step(b"command 16: ", &book, 0, 16);
     show_short(&book);
-    let mut out = [255u8; 76];
-    show_write(b"write: ", &book, &mut out, 76);
+    let mut out = [255u8; 80];
+    show_write(b"write: ", &book, &mut out, 80);
     dump(&out);
     show_write(b"\nwrite into 70: ", &book, &mut out, 70);
     show_write(b"write into 69: ", &book, &mut out, 69);
@@ -239,6 +284,7 @@ fn main() {
     show_choice(b"choose none: ", &book, 0, 2, b"\x07", b"\x10\x02");
     show_choice(b"choose here: ", &book, 2, 2, b"\x00", b"");
     show_hold(&mut book);
+    show_leaving(&mut book);
     show_torn(&mut book);
     line(b"same book: ", same(&book, &before));
     line(b"open ladder: ", open_ladder(&mut book, &mut sheet));

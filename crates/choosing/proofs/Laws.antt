@@ -8,7 +8,7 @@ use lib.ListN.{length, getD, take, drop, length-take, drop-of-length-le}
 use lib.Seq.{drop-cons, getD-take}
 use borrow.Author.Tests.{eq-eqb, ne-eqb, lt-ltb, le-ltb}
 use Rattle.definitions.specs.Basics.{_>>=_}
-use Rattle.definitions.specs.Limits.{commands, largestCost, longestList}
+use Rattle.definitions.specs.Limits.{commands, largestStepCost, longestList}
 use Rattle.definitions.specs.Tree.{Tree, UsedNode, Sound}
 use Rattle.definitions.specs.Step.{Arrival, step}
 use Rattle.definitions.specs.Choose.{Used, usedPart, usedOf}
@@ -80,7 +80,7 @@ pub record Upto (t : Tree) (a b : ℕ) (list : List ℕ) (s i cost : ℕ) : Type
   pub used : UsedNode t s
   pub plain : t .below s ≡ none
   pub short : i ≤ min (length list) longestList
-  pub cheap : cost ≤ i * largestCost
+  pub cheap : cost ≤ i * largestStepCost
   pub same : usedOf t a b list ≡ shifted i cost (usedPart t b s (drop i (take longestList list)))
 
 -- before the first command
@@ -140,5 +140,5 @@ module _ {t : Tree} (sound : Sound t) {a b : ℕ} {list : List ℕ} {s i cost : 
         }
 
     -- the sum of costs fits
-    pub upto-fits : x < commands → {n c : ℕ} → step t s x ≡ some (record { node = n; cost = c }) → cost + c ≤ 65536 * largestCost
+    pub upto-fits : x < commands → {n c : ℕ} → step t s x ≡ some (record { node = n; cost = c }) → cost + c ≤ 65536 * largestStepCost
     upto-fits range moved = omega (arith, upto .cheap, step-cost sound (t .root) s x moved)

@@ -10,7 +10,7 @@ use borrow.Author.Tests.{ltb-true}
 use Rattle.definitions.specs.Basics.{unless}
 use Rattle.definitions.specs.Limits.{machines, nodes, commands}
 use Rattle.definitions.specs.Tree.{Tree}
-use Rattle.definitions.specs.Book.{number, transitionOf, under, nodeWord, machineWord, holdWord, treeOf}
+use Rattle.definitions.specs.Book.{number, transitionOf, under, nodeWord, machineWord, holdWord, leaveWord, treeOf}
 use Rattle.definitions.specs.Sheet.{Rows, costOf, machineRowWord, nodeRowWord, rowsOf}
 use Rattle.definitions.proofs.Words.{same-nodes, same-machines, same-rows}
 use Rattle.book.specs.Fields.{withoutNode}
@@ -65,6 +65,7 @@ nodes-both t a b =
 machines-both : (t : Tree) (a b : ℕ → Bool) → withoutMachines (withoutMachines t a) b ≡ withoutMachines t (λ k. a k || b k)
 machines-both t a b =
     same-machines _ _ refl (λ m. unless-both (a m) (b m) (t .start m)) (λ m. unless-both (a m) (b m) (t .holder m))
+    (λ m. empty-both 0 (a m) (b m) (t .leave m))
 
 machine-rows-both : (r : Rows) (a b : ℕ → Bool) → withoutMachineRows (withoutMachineRows r a) b ≡ withoutMachineRows r (λ k. a k || b k)
 machine-rows-both r a b =
@@ -188,7 +189,7 @@ module _ (g h : ℕ → Bool) where
   machines-all agree b {s} left =
       left-same left
       (same-machines _ _ refl (λ m. same-under machines m g h (number (machineWord b m 1)) none agree)
-      (λ m. same-under machines m g h (number (machineWord b m 0)) none agree))
+      (λ m. same-under machines m g h (number (machineWord b m 0)) none agree) (λ m. same-under machines m g h (leaveWord b m) 0 agree))
       (same-rows _ _ (λ m. same-under machines m g h (eqb (machineRowWord s m 0) 1) false agree)
       (λ m x. same-under machines m g h (under commands x (costOf (machineRowWord s m (1 + x)))) none agree)
       (λ m x. same-under machines m g h (under commands x (number (machineRowWord s m (17 + x)))) none agree)

@@ -31,7 +31,8 @@ withoutNodes t gone =
 
 -- the tree where nothing is said of the machines that pass the test
 abbrev pub withoutMachines : Tree → (ℕ → Bool) → Tree
-withoutMachines t gone = withMachines t (λ m. unless (gone m) (t .start m)) (λ m. unless (gone m) (t .holder m))
+withoutMachines t gone =
+    withMachines t (λ m. unless (gone m) (t .start m)) (λ m. unless (gone m) (t .holder m)) (λ m. cond (gone m) 0 (t .leave m))
 
 -- the rows where the machines that pass the test are blank and not marked
 abbrev pub withoutMachineRows : Rows → (ℕ → Bool) → Rows

@@ -14,7 +14,7 @@ pub fn drop_node(book: &mut [u32], sheet: &mut [u32], n: u32)
     sheet::blank_node_row(sheet, n);
 }
 
-// Leaves the record, the row and the mark of machine m as an unused machine has them.
+// Leaves the record, the leaving cost, the row and the mark of machine m as an unused machine has them.
 fn drop_machine(book: &mut [u32], sheet: &mut [u32], m: u32)
     requires { ⌜ Sized (now book) (now sheet) × (m < machines) ⌝ }
     ensures { λ r. ⌜ MachineDropped (now (book .entry)) (now (sheet .entry)) (now (book .exit)) (now (sheet .exit)) m ⌝ }

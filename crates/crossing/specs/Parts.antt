@@ -4,17 +4,18 @@ use mathlib.Core.Path.{_≡_}
 use mathlib.Core.Bool.{Bool, true, false, cond, _||_}
 use mathlib.Core.Option.{Option, none, some}
 use mathlib.Core.List.{List}
-use Prim.Native.Nat.{ℕ, _+_, _*_, _-_, _<_}
+use Prim.Native.Nat.{ℕ, _+_, _*_, _-_, _/_, _%_, _≤_, _<_}
+use lib.Dec.{eqb}
 use lib.ListN.{length}
 use Rattle.definitions.specs.Basics.{_>>=_, option}
-use Rattle.definitions.specs.Limits.{machines, nodes, commands, blank}
+use Rattle.definitions.specs.Limits.{machines, nodes, commands, largestStepCost}
 use Rattle.definitions.specs.Tree.{Tree, Transition, over}
-use Rattle.definitions.specs.Step.{leaving, Climb, found, passed, past, climb, Arrival}
-use Rattle.definitions.specs.Book.{transitionOf}
+use Rattle.definitions.specs.Step.{Climb, found, passed, past, climb, Arrival}
 use Rattle.definitions.specs.Sheet.{Rows}
 use Rattle.definitions.specs.Truth.{nodeExit}
 use Rattle.book.specs.Chosen.{chosen}
 use Rattle.plantheory.specs.Search.{openedFor, land, planMove}
+use Rattle.search.specs.Search.{unreached}
 use Rattle.search.specs.Parts.{at}
 
 -- ---- the opened machines
@@ -62,6 +63,21 @@ pub record Landings (t : Tree) (opened : ℕ → Bool) (lands : List ℕ) : Type
 
 -- ---- what a command finds
 
+-- one word for where it leads and what it costs: the node times this, and the cost; the word for none has the word for absent as its node
+abbrev pub wayCosts : ℕ
+wayCosts = 281474976710656
+
+unfoldable pub wayOf : ℕ → Option Transition
+wayOf w = cond (eqb w unreached) none (some (record { target = w / wayCosts; cost = w % wayCosts }))
+
+-- a word that leads, if anywhere, to a node, and at no more than a step costs
+abbrev pub WayFits : ℕ → Type 0
+WayFits w = (a : Transition) → wayOf w ≡ some a → (a .target < nodes) × (a .cost ≤ largestStepCost)
+
+-- where it leads, if anywhere, after a machine was left at this cost
+abbrev pub after : ℕ → Option Transition → Option Transition
+after l way = way >>= λ a. some (record { target = a .target; cost = l + a .cost })
+
 -- what a climb finds, with the node where its target lands by the list for target
 abbrev pub landed : List ℕ → Climb → Option Transition
 landed lands (found u v c) = some (record { target = at lands v; cost = c })
@@ -74,15 +90,15 @@ finds t lands n x = landed lands (climb t (t .root) n x)
 -- what a node of machine m that has no transition which counts for x takes over: what x finds from the node that holds m, after m was left,
 -- and for the root nothing
 unfoldable pub inherits : Tree → List ℕ → ℕ → ℕ → Option Transition
-inherits t lands m x = t .holder m >>= λ h. landed lands (past (leaving t m) (climb t (t .root) h x))
+inherits t lands m x = t .holder m >>= λ h. landed lands (past (t .leave m) (climb t (t .root) h x))
 
 -- the list has a word for every machine and command
 abbrev pub UpRoom : List ℕ → Type 0
 UpRoom up = length up ≡ commands * machines
 
--- its word for m and x says what m inherits for x: it is that transition's word taken from the word for none, so 0 for nothing
+-- its word for m and x says what m inherits for x: it is the word of that taken from the word for none, so 0 for nothing
 abbrev pub Inherited : Tree → List ℕ → List ℕ → ℕ → ℕ → Type 0
-Inherited t lands up m x = transitionOf (blank - at up (commands * m + x)) ≡ inherits t lands m x
+Inherited t lands up m x = wayOf (unreached - at up (commands * m + x)) ≡ inherits t lands m x
 
 -- and so do all words of machine m's row; of the row of node n's machine; of the root's row
 abbrev pub MachineRow : Tree → List ℕ → List ℕ → ℕ → Type 0
@@ -121,10 +137,6 @@ leaves exit way = exit >>= λ e. way >>= λ a. some (record { node = a .target; 
 -- the move of node n for x, by the nodes where its targets land
 unfoldable pub landMove : Tree → Rows → List ℕ → ℕ → ℕ → Option Arrival
 landMove t r lands n x = leaves (nodeExit t r n x) (finds t lands n x)
-
--- a transition's word whose target, if it says one, is a node
-abbrev pub InNodes : ℕ → Type 0
-InNodes w = (a : Transition) → transitionOf w ≡ some a → a .target < nodes
 
 -- the moves that the tables hold: those of the nodes in opened machines
 unfoldable pub openMove : Tree → Rows → (ℕ → Bool) → ℕ → ℕ → Option Arrival

@@ -3,12 +3,12 @@
 ghost use mathlib.Core.Path.{_≡_};
 ghost use mathlib.Core.Bool.{cond};
 ghost use mathlib.Core.Option.{some};
-ghost use Prim.Native.Nat.{ℕ, _<_};
+ghost use Prim.Native.Nat.{ℕ, _+_, _*_, _<_};
 ghost use lib.Dec.{eqb};
 ghost use lib.ListN.{length};
 ghost use Rattle.definitions.specs.Limits.{machines, nodes, commands, blank};
 ghost use Rattle.definitions.specs.Tree.{UsedNode};
-ghost use Rattle.definitions.specs.Book.{treeOf, transitionOf, WellFormed};
+ghost use Rattle.definitions.specs.Book.{treeOf, WellFormed};
 ghost use Rattle.definitions.specs.Sheet.{rowsOf};
 ghost use Rattle.plantheory.specs.Search.{openedFor, land};
 ghost use Rattle.search.specs.Search.{entryMove};
@@ -16,10 +16,15 @@ ghost use Rattle.search.specs.Tables.{TableRoom, FoundRoom, BlankRow, EntryFill
 ghost use Rattle.sheet.specs.Exits.{Readable, exitOf, Exits};
 ghost use Rattle.crossing.specs.Crossing.{Crossable, Crossed};
 ghost use Rattle.crossing.specs.Parts.{isOpen, MachinesOpened, inOpened, OpenedFor, NodeList, Itself, LandedAbove, Landings};
-ghost use Rattle.crossing.specs.Parts.{finds, leaves, landMove, UpRoom, OwnerRow, MachineRow, RootRow, HandedTo, HandedAbove, Prepared};
-ghost use Rattle.crossing.specs.Parts.{InNodes, openMove};
+ghost use Rattle.crossing.specs.Parts.{wayCosts, wayOf, finds, leaves, landMove, UpRoom, OwnerRow, MachineRow, RootRow, HandedTo, HandedAbove, Prepared};
+ghost use Rattle.crossing.specs.Parts.{WayFits, after, openMove};
 use book::wide;
 use sheet::OwnExit;
+
+// What a command finds, as one word: the node where it lands times WAY, and what it costs; or NOTHING, which has ABSENT for its node.
+const WAY: u64 = 281474976710656;
+
+const NOTHING: u64 = 18446744073709551615;
 
 // A move: the node where it leads, ABSENT where there is none, and what it costs.
 struct Move {
@@ -113,43 +118,64 @@ fn landings(book: &[u32], opened: &[u32], a: u32, b: u32, lands: &mut [u32])
     land_above(book, opened, b, lands);
 }
 
+// The word of what leads to node v at cost c.
+fn way(v: u32, c: u32) -> u64
+    requires { ⌜ v < nodes ⌝ }
+    ensures { λ r. ⌜ r ≡ v * wayCosts + c ⌝ }
+{
+    wide(v) * WAY + wide(c)
+}
+
 // `own`, but `inherited` where w is the word for no transition. Both are at hand, so that the choice needs no branch.
-fn unless_none(w: u32, own: u32, inherited: u32) -> u32
+fn unless_none(w: u32, own: u64, inherited: u64) -> u64
     ensures { λ r. ⌜ r ≡ cond (eqb w blank) inherited own ⌝ }
 {
     if w == book::BLANK { inherited } else { own }
 }
 
-// What command x finds from node n of machine m, as a transition's word whose target is where the one found lands: the transition of n
-// that counts, or else what m inherits. The list `up` has the words of what is inherited taken from BLANK, so 0 for nothing.
-fn find(book: &[u32], lands: &[u32], up: &[u32], m: u32, n: u32, x: u32) -> u32
+// What command x finds from node n of machine m: the transition of n that counts, or else what m inherits. The list `up` has the words of what is
+// inherited taken from NOTHING, so 0 for nothing.
+fn find(book: &[u32], lands: &[u32], up: &[u64], m: u32, n: u32, x: u32) -> u64
     requires { ⌜ WellFormed (now book) × NodeList (now lands) × UpRoom (now up) × (treeOf (now book) .owner n ≡ some m) × (x < commands)
         × MachineRow (treeOf (now book)) (now lands) (now up) m ⌝ }
-    ensures { λ r. ⌜ transitionOf r ≡ finds (treeOf (now (book .entry))) (now (lands .entry)) n x ⌝ }
+    ensures { λ r. ⌜ wayOf r ≡ finds (treeOf (now (book .entry))) (now (lands .entry)) n x ⌝ }
 {
     let w = book::counting(book, n, x);
-    let own = lands[(w / 65536 % 256) as usize] * 65536 + w % 65536;
-    let inherited = book::BLANK - up[(book::COMMANDS * m + x) as usize];
+    let own = way(lands[(w / 65536 % 256) as usize], w % 65536);
+    let inherited = NOTHING - up[(book::COMMANDS * m + x) as usize];
     unless_none(w, own, inherited)
 }
 
-// Writes what machine m, held by node h, inherits: what every command y finds from h. The row of the machine above is written already.
-fn inherit(book: &[u32], lands: &[u32], m: u32, h: u32, up: &mut [u32])
+// The word w after a machine was left at cost l.
+fn after(w: u64, l: u32) -> u64
+    requires { ⌜ WayFits w ⌝ }
+    ensures { λ r. ⌜ wayOf r ≡ after l (wayOf w) ⌝ }
+{
+    if w == NOTHING {
+        return w;
+    }
+    w + wide(l)
+}
+
+// Writes what machine m, held by node h, inherits: what every command y finds from h, after m was left. The row of the machine above is written
+// already.
+fn inherit(book: &[u32], lands: &[u32], m: u32, h: u32, up: &mut [u64])
     requires { ⌜ WellFormed (now book) × NodeList (now lands) × UpRoom (now up) × (treeOf (now book) .holder m ≡ some h)
         × OwnerRow (treeOf (now book)) (now lands) (now up) h ⌝ }
     ensures { λ _. ⌜ HandedTo (treeOf (now (book .entry))) (now (lands .entry)) m (now (up .entry)) (now (up .exit)) ⌝ }
 {
     let p = book::owner(book, h);
+    let l = book::leave(book, m);
     let mut y = 0u32;
     while y < book::COMMANDS {
-        let w = find(book, lands, up, p, h, y);
-        up[(book::COMMANDS * m + y) as usize] = book::BLANK - w;
+        let w = after(find(book, lands, up, p, h, y), l);
+        up[(book::COMMANDS * m + y) as usize] = NOTHING - w;
         y += 1;
     }
 }
 
 // Writes what the machine of node n and all above it inherit, from the root down. The root's row is written already.
-fn inherit_above(book: &[u32], lands: &[u32], n: u32, up: &mut [u32])
+fn inherit_above(book: &[u32], lands: &[u32], n: u32, up: &mut [u64])
     requires { ⌜ WellFormed (now book) × NodeList (now lands) × UpRoom (now up) × UsedNode (treeOf (now book)) n
         × RootRow (treeOf (now book)) (now lands) (now up) ⌝ }
     ensures { λ _. ⌜ HandedAbove (treeOf (now (book .entry))) (now (lands .entry)) n (now (up .entry)) (now (up .exit)) ⌝ }
@@ -163,16 +189,16 @@ fn inherit_above(book: &[u32], lands: &[u32], n: u32, up: &mut [u32])
     inherit(book, lands, m, above, up);
 }
 
-// The move of a node with this exit cost from which the transition of word w is found. The word for none has ABSENT for target.
-fn priced(exit: OwnExit, w: u32) -> Move
-    requires { ⌜ Exits (exitOf exit) exit × InNodes w ⌝ }
-    ensures { λ r. ⌜ entryMove (r .target) (r .price) ≡ leaves (exitOf exit) (transitionOf w) ⌝ }
+// The move of a node with this exit cost from which w is found.
+fn priced(exit: OwnExit, w: u64) -> Move
+    requires { ⌜ Exits (exitOf exit) exit × WayFits w ⌝ }
+    ensures { λ r. ⌜ entryMove (r .target) (r .price) ≡ leaves (exitOf exit) (wayOf w) ⌝ }
 {
     match exit {
         OwnExit::Costs(e) => {
-            let price = e + wide(w % 65536);
+            let price = e + w % WAY;
             Move {
-                target: w / 65536,
+                target: (w / WAY) as u32,
                 price,
             }
         }
@@ -188,7 +214,7 @@ fn entry(
     book: &[u32],
     sheet: &[u32],
     lands: &[u32],
-    up: &[u32],
+    up: &[u64],
     m: u32,
     n: u32,
     x: u32,
@@ -212,7 +238,7 @@ fn row(
     book: &[u32],
     sheet: &[u32],
     lands: &[u32],
-    up: &[u32],
+    up: &[u64],
     n: u32,
     target: &mut [u32],
     price: &mut [u64],
@@ -236,7 +262,7 @@ fn row_if_opened(
     sheet: &[u32],
     opened: &[u32],
     lands: &[u32],
-    up: &[u32],
+    up: &[u64],
     n: u32,
     target: &mut [u32],
     price: &mut [u64],
@@ -259,7 +285,7 @@ fn rows(
     sheet: &[u32],
     opened: &[u32],
     lands: &[u32],
-    up: &[u32],
+    up: &[u64],
     target: &mut [u32],
     price: &mut [u64],
 )
@@ -288,7 +314,7 @@ fn tables(book: &[u32], sheet: &[u32], a: u32, b: u32, target: &mut [u32], price
     open_above(book, b, &mut opened);
     let mut lands = [0u32; 256];
     landings(book, &opened, a, b, &mut lands);
-    let mut up = [0u32; 1024];
+    let mut up = [0u64; 1024];
     inherit_above(book, &lands, a, &mut up);
     inherit_above(book, &lands, b, &mut up);
     rows(book, sheet, &opened, &lands, &up, target, price);

@@ -1,22 +1,19 @@
--- The node that acts: what Step gives names the one whose transition was used. Assumes nothing.
+-- The node that acts: what Step gives names the one whose transition was used. Where leaving costs nothing a step costs what this transition does.
+-- Assumes nothing.
 use mathlib.Core.Path.{_≡_, refl, ap, subst, _∙_}
-use mathlib.Core.Option.{some}
+use mathlib.Core.Option.{Option, none, some}
 use mathlib.Core.List.{List, [], _∷_}
 use Prim.Native.Nat.{ℕ}
 use native.Mathlib.Omega.{arith}
-use Rattle.definitions.specs.Tree.{Tree}
-use Rattle.definitions.specs.Step.{enter, Arrival, foundAt, step, acting}
+use Rattle.definitions.specs.Basics.{option}
+use Rattle.definitions.specs.Tree.{Tree, Transition}
+use Rattle.definitions.specs.Step.{enter, counting, leavingOf, leavingAll, Arrival, foundAt, step, acting}
 use Rattle.definitions.specs.Book.{treeOf}
 use Rattle.definitions.specs.Calls.{Acts, StepActs}
 use Rattle.definitions.proofs.Options.{some-same}
-use Rattle.definitions.proofs.Path.{leavingAll, climb-on-path}
-use Rattle.definitions.proofs.Simple.{leaving-of, step-stepped}
+use Rattle.definitions.proofs.Path.{climb-on-path}
+use Rattle.definitions.proofs.Simple.{step-stepped}
 use Rattle.definitions.proofs.Answers.{given-step, step-given}
-
--- leaving machines costs nothing
-leaving-all : (t : Tree) (ns : List ℕ) → leavingAll t ns ≡ 0
-leaving-all t [] = refl
-leaving-all t (n ∷ ns) = omega (arith, leaving-of t n, leaving-all t ns)
 
 -- the node where the climb of a step ends acts
 pub acting-acts : (t : Tree) (s x : ℕ) {a : Arrival} {n : ℕ} → step t s x ≡ some a → acting t s x ≡ some n → Acts t s x n a
@@ -29,7 +26,7 @@ acting-acts t s x {a} {n} moved acts =
     (record {
       lowest = f .lowest;
       enters = ap (enter t) (f .leads) ∙ up .enters;
-      costs = omega (arith, f .costs, leaving-all t (f .lowest .lower));
+      costs = f .costs;
     })
 
 -- the claim of W-202
@@ -37,3 +34,21 @@ pub step-acts : StepActs
 step-acts book s x a n says =
     let (moved, acts) = given-step (treeOf book) s x (step-given book s x says) in
     acting-acts (treeOf book) s x moved acts
+
+-- ---- where leaving costs nothing (document 02, W-207)
+
+module _ (t : Tree) (free : (m : ℕ) → t .leave m ≡ 0) where
+  free-of : (o : Option ℕ) → option 0 (t .leave) o ≡ 0
+  free-of none = refl
+  free-of (some m) = free m
+
+  free-all : (ns : List ℕ) → leavingAll t ns ≡ 0
+  free-all [] = refl
+  free-all (n ∷ ns) = omega (arith, free-of (t .owner n), free-all ns)
+
+  -- a step's cost is that of its transition alone
+  pub free-step : (s x n : ℕ) (a : Arrival) → step t s x ≡ some a → acting t s x ≡ some n
+      → (b : Transition) × (counting t n x ≡ some b) × (b .cost ≡ a .cost)
+  free-step s x n a moved acts =
+      let up = acting-acts t s x moved acts in
+      (up .lowest .transition, up .lowest .counts, omega (arith, up .costs, free-all (up .lowest .lower)))

@@ -266,6 +266,24 @@ hold-taken {t} {n} {b} k =
     (λ one. rw (lt-ltb n nodes (k .node-range), lt-ltb b 2 (k .hold-range), start-other t n p own (k .no-start one p own), own, eq-eqb b 1 one))
     (λ other. rw (lt-ltb n nodes (k .node-range), lt-ltb b 2 (k .hold-range), own, ne-eqb b 1 other)) (equal-or-not b 1)
 
+-- leave: a machine in use that is not the root
+pub record TakenLeave (t : Tree) (m : ℕ) : Type 0 where
+  pub machine-range : m < machines
+  pub not-root : m ≡ t .root → ⊥
+  pub machine-used : (s : ℕ) × (t .start m ≡ some s)
+
+pub taken-leave : (t : Tree) (m c : ℕ) → refusal t (edit (Edit.leave m c)) ≡ 0 → TakenLeave t m
+unfolding refusal refusals
+taken-leave t m c e =
+    let (ranges, e6) = passed 5 _ _ e in
+    let (machine, other) = neither ranges in
+    let (used, end) = passed 6 _ _ e6 in
+    record { machine-range = in-range machine; not-root = eqb-false m (t .root) other; machine-used = is-there used }
+
+pub leave-taken : {t : Tree} {m : ℕ} (c : ℕ) → TakenLeave t m → refusal t (edit (Edit.leave m c)) ≡ 0
+unfolding refusal refusals firstHolding
+leave-taken {t} {m} c k = rw (lt-ltb m machines (k .machine-range), ne-eqb m (t .root) (k .not-root), k .machine-used .1)
+
 -- crown: a machine and a node that are not in use, and no node at the lowest level
 pub record TakenCrown (t : Tree) (m n : ℕ) : Type 0 where
   pub machine-range : m < machines
@@ -615,6 +633,7 @@ pub record Begun (m n : ℕ) (u : Tree) (r q : Rows) : Type 0 where
   pub holder : (p : ℕ) → u .holder p ≡ none
   pub transition : (k x : ℕ) → u .transition k x ≡ none
   pub hold : (k : ℕ) → u .hold k ≡ 0
+  pub leave : (p : ℕ) → u .leave p ≡ 0
   pub rows : RowsLeft u (λ p. p ≡ m) (λ p. p ≡ m → ⊥) (λ k. k ≡ n → ⊥) r q
 
 pub begun : (t : Tree) (r : Rows) (m n : ℕ) → BlankRule t r → Begun m n (edited t (Edit.begin m n)) r (editedRows t (Edit.begin m n) r)
@@ -630,6 +649,7 @@ begun t r m n blanks =
       holder = λ p. refl;
       transition = λ k x. refl;
       hold = λ k. refl;
+      leave = λ k. refl;
       rows = rows-left t _ _ r blanks (record {
         test-true = λ p same. eq-eqb p m same;
         test-false = λ p other. ne-eqb p m other;
@@ -650,6 +670,7 @@ pub record Added (t : Tree) (m n s : ℕ) (u : Tree) (r q : Rows) : Type 0 where
   pub holder : Same (t .holder) (u .holder)
   pub transition : SameBoth (t .transition) (u .transition)
   pub hold : Same (t .hold) (u .hold)
+  pub leave : Same (t .leave) (u .leave)
   pub new-plain : u .below n ≡ none
   pub new-free : (x : ℕ) → u .transition n x ≡ none
   pub new-open : u .hold n ≡ 0
@@ -669,6 +690,7 @@ added t r m n s sound blanks ok st =
       holder = λ k. refl;
       transition = λ k x. refl;
       hold = λ k. refl;
+      leave = λ k. refl;
       new-plain = unused-below t sound n new;
       new-free = λ x. unused-transition t sound n x new;
       new-open = unused-hold t sound n new;
@@ -684,9 +706,11 @@ pub record Refined (t : Tree) (n m s : ℕ) (u : Tree) (r q : Rows) : Type 0 whe
   pub holder : Changed (t .holder) m (some n) (u .holder)
   pub transition : SameBoth (t .transition) (u .transition)
   pub hold : Same (t .hold) (u .hold)
+  pub leave : Same (t .leave) (u .leave)
   pub new-plain : u .below s ≡ none
   pub new-free : (x : ℕ) → u .transition s x ≡ none
   pub new-open : u .hold s ≡ 0
+  pub new-leave : u .leave m ≡ 0
   pub new-only : (k : ℕ) → u .owner k ≡ some m → k ≡ s
   pub rows : RowsLeft u (λ p. (p ≡ m) ⊎ (over t p n ≡ true)) NoneGone NoneGone r q
 
@@ -713,9 +737,11 @@ refined t r n m s sound blanks ok =
       holder = changed (t .holder) m (some n);
       transition = λ k x. refl;
       hold = λ k. refl;
+      leave = λ k. refl;
       new-plain = below .elsewhere s apart-from ∙ unused-below t sound s (taken .first-new);
       new-free = λ x. unused-transition t sound s x (taken .first-new);
       new-open = unused-hold t sound s (taken .first-new);
+      new-leave = sound .leave-used m (taken .machine-new);
       new-only = only-first sound (taken .machine-new) owner;
       rows = rows-left t _ _ r blanks (record {
         test-true = λ p. ⊎-elim (λ same. rw (eq-eqb p m same)) (λ h. rw h (or-true (eqb p m)));
@@ -730,7 +756,7 @@ refined t r n m s sound blanks ok =
       });
     }
 
--- remove deletes node n, all below it, their holds, and the transitions into it
+-- remove deletes node n, all below it, their holds and leaving costs, and the transitions into it
 pub record Removed (t : Tree) (n : ℕ) (u : Tree) (r q : Rows) : Type 0 where
   pub root : u .root ≡ t .root
   pub itself : u .owner n ≡ none
@@ -748,6 +774,8 @@ pub record Removed (t : Tree) (n : ℕ) (u : Tree) (r q : Rows) : Type 0 where
       → u .transition k x ≡ t .transition k x
   pub hold-gone : (k : ℕ) → within t n k ≡ true → u .hold k ≡ 0
   pub hold-kept : (k : ℕ) → within t n k ≡ false → u .hold k ≡ t .hold k
+  pub leave-gone : (p : ℕ) → HeldWithin t n p → u .leave p ≡ 0
+  pub leave-kept : (p : ℕ) → (HeldWithin t n p → ⊥) → u .leave p ≡ t .leave p
   pub rows : RowsLeft u (λ p. over t p n ≡ true) (HeldWithin t n) (λ k. within t n k ≡ true) r q
 
 -- whether a machine is held within a node, as a test
@@ -800,6 +828,8 @@ removed t r n sound blanks =
       transition-kept = λ k x w other. rw w (other-kept n (t .transition k x) other);
       hold-gone = λ k w. rw w;
       hold-kept = λ k w. rw w;
+      leave-gone = λ p w. rw (held-test t n p w);
+      leave-kept = λ p free. rw (free-test t n p free);
       rows = rows-left t _ _ r blanks (record {
         test-true = λ p h. h;
         test-false = λ p off. not-true-false off;
@@ -821,6 +851,7 @@ pub record OneTransition (t : Tree) (n x : ℕ) (o : Option Transition) (u : Tre
   pub here : u .transition n x ≡ o
   pub elsewhere : (k y : ℕ) → ((k ≡ n) × (y ≡ x) → ⊥) → u .transition k y ≡ t .transition k y
   pub hold : Same (t .hold) (u .hold)
+  pub leave : Same (t .leave) (u .leave)
   pub rows : RowsLeft u (λ p. over t p n ≡ true) NoneGone NoneGone r q
 
 -- a function of two numbers changed at one place
@@ -846,6 +877,7 @@ one-transition t r n x o sound blanks =
       here = both-here (t .transition) n x o;
       elsewhere = both-elsewhere (t .transition) n x o;
       hold = λ k. refl;
+      leave = λ k. refl;
       rows = rows-left t _ _ r blanks (fits-over sound _ n _ (λ p. refl) (λ p f e. (f, e)) (λ k p e. (p, e)));
     }
 
@@ -870,6 +902,7 @@ pub record Started (t : Tree) (n m : ℕ) (u : Tree) (r q : Rows) : Type 0 where
   pub holder : Same (t .holder) (u .holder)
   pub transition : SameBoth (t .transition) (u .transition)
   pub hold : Same (t .hold) (u .hold)
+  pub leave : Same (t .leave) (u .leave)
   pub rows : RowsLeft u (λ p. over t p n ≡ true) NoneGone NoneGone r q
 
 pub started : (t : Tree) (r : Rows) (n m : ℕ) → Sound t → BlankRule t r → t .owner n ≡ some m
@@ -886,6 +919,7 @@ started t r n m sound blanks own =
       holder = λ k. refl;
       transition = λ k x. refl;
       hold = λ k. refl;
+      leave = λ k. refl;
       rows = rows-left t _ _ r blanks (fits-over sound _ n _ (λ p. refl) (still-some start) (λ k p e. (p, e)));
     })
 
@@ -898,6 +932,7 @@ pub record HoldSet (t : Tree) (n b : ℕ) (u : Tree) (r q : Rows) : Type 0 where
   pub holder : Same (t .holder) (u .holder)
   pub transition : SameBoth (t .transition) (u .transition)
   pub hold : Changed (t .hold) n b (u .hold)
+  pub leave : Same (t .leave) (u .leave)
   pub rows : RowsLeft u (λ p. over t p n ≡ true) NoneGone NoneGone r q
 
 pub hold-set : (t : Tree) (r : Rows) (n b : ℕ) → Sound t → BlankRule t r
@@ -912,10 +947,39 @@ hold-set t r n b sound blanks =
       holder = λ k. refl;
       transition = λ k x. refl;
       hold = changed (t .hold) n b;
+      leave = λ k. refl;
       rows = rows-left t _ _ r blanks (fits-over sound _ n _ (λ p. refl) (λ p f e. (f, e)) (λ k p e. (p, e)));
     }
 
--- crown makes the new machine m root; its one node n, the start, holds the old root
+-- leave sets what leaving machine m, whose start node is s, costs, and nothing else
+pub record LeaveSet (t : Tree) (m s c : ℕ) (u : Tree) (r q : Rows) : Type 0 where
+  pub root : u .root ≡ t .root
+  pub owner : Same (t .owner) (u .owner)
+  pub below : Same (t .below) (u .below)
+  pub start : Same (t .start) (u .start)
+  pub holder : Same (t .holder) (u .holder)
+  pub transition : SameBoth (t .transition) (u .transition)
+  pub hold : Same (t .hold) (u .hold)
+  pub leave : Changed (t .leave) m c (u .leave)
+  pub rows : RowsLeft u (λ p. over t p s ≡ true) NoneGone NoneGone r q
+
+pub leave-set : (t : Tree) (r : Rows) (m s c : ℕ) → Sound t → BlankRule t r → t .start m ≡ some s
+    → LeaveSet t m s c (edited t (Edit.leave m c)) r (editedRows t (Edit.leave m c) r)
+unfolding edited editedRows touches
+leave-set t r m s c sound blanks st =
+    record {
+      root = refl;
+      owner = λ k. refl;
+      below = λ k. refl;
+      start = λ k. refl;
+      holder = λ k. refl;
+      transition = λ k x. refl;
+      hold = λ k. refl;
+      leave = changed (t .leave) m c;
+      rows = rows-left t _ _ r blanks (fits-over sound _ s _ (λ p. rw st) (λ p f e. (f, e)) (λ k p e. (p, e)));
+    }
+
+-- crown makes the new machine m root; its one node n, the start, holds the old root, whose leaving cost is 0 as the new one's
 pub record Crowned (t : Tree) (m n : ℕ) (u : Tree) (r q : Rows) : Type 0 where
   pub root : u .root ≡ m
   pub owner : Changed (t .owner) n (some m) (u .owner)
@@ -924,8 +988,11 @@ pub record Crowned (t : Tree) (m n : ℕ) (u : Tree) (r q : Rows) : Type 0 where
   pub holder : Changed (t .holder) (t .root) (some n) (u .holder)
   pub transition : SameBoth (t .transition) (u .transition)
   pub hold : Same (t .hold) (u .hold)
+  pub leave : Same (t .leave) (u .leave)
   pub new-free : (x : ℕ) → u .transition n x ≡ none
   pub new-open : u .hold n ≡ 0
+  pub new-leave : u .leave m ≡ 0
+  pub old-leave : u .leave (t .root) ≡ 0
   pub new-only : (k : ℕ) → u .owner k ≡ some m → k ≡ n
   pub root-free : u .holder m ≡ none
   pub rows : RowsLeft u (λ p. p ≡ m) NoneGone NoneGone r q
@@ -947,8 +1014,11 @@ crowned t r m n sound blanks ok =
       holder = holder;
       transition = λ k x. refl;
       hold = λ k. refl;
+      leave = λ k. refl;
       new-free = λ x. unused-transition t sound n x (taken .node-new);
       new-open = unused-hold t sound n (taken .node-new);
+      new-leave = sound .leave-used m (taken .machine-new);
+      old-leave = sound .leave-root;
       new-only = only-first sound (taken .machine-new) owner;
       root-free = holder .elsewhere m not-old ∙ unused-holder t sound m (taken .machine-new);
       rows = rows-left t _ _ r blanks (record {
@@ -1013,6 +1083,7 @@ Does t (edit (Edit.clear n x)) u r q = OneTransition t n x none u r q
 Does t (edit (Edit.start n)) u r q = (m : ℕ) × (t .owner n ≡ some m) × Started t n m u r q
 Does t (edit (Edit.crown m n)) u r q = Crowned t m n u r q
 Does t (edit (Edit.hold n b)) u r q = HoldSet t n b u r q
+Does t (edit (Edit.leave m c)) u r q = (s : ℕ) × (t .start m ≡ some s) × LeaveSet t m s c u r q
 Does t refresh u r q = (u ≡ t) × Refilled t r q
 
 pub does : (t : Tree) (c : Command) (r q : Rows) → Sound t → BlankRule t r → refusal t c ≡ 0 → RowsAfter t c r q
@@ -1030,4 +1101,7 @@ does t (edit (Edit.start n)) r q sound blanks ok e =
     (m, own, rw e (started t r n m sound blanks own))
 does t (edit (Edit.crown m n)) r q sound blanks ok e = rw e (crowned t r m n sound blanks ok)
 does t (edit (Edit.hold n b)) r q sound blanks ok e = rw e (hold-set t r n b sound blanks)
+does t (edit (Edit.leave m c)) r q sound blanks ok e =
+    let (s, st) = taken-leave t m c ok .machine-used in
+    (s, st, rw e (leave-set t r m s c sound blanks st))
 does t refresh r q sound blanks ok f = (refreshed-tree t, refilled t r q blanks f)

@@ -6,7 +6,7 @@ use Prim.Native.Nat.{ℕ, _+_, _≤_, _<_}
 use native.Mathlib.Omega.{arith}
 use native.Mathlib.Nat.{zero-add, add-assoc}
 use Rattle.definitions.specs.Tree.{Tree, Transition, Sound}
-use Rattle.definitions.specs.Step.{counting, leaving, Climb, found, passed, past, climb}
+use Rattle.definitions.specs.Step.{counting, Climb, found, passed, past, climb}
 use Rattle.definitions.proofs.Path.{Deep, at-root, under, root-holder, deep-unique, deep, Enters, plain, down, Inside, own, deeper, counting-owned, climb-own, climb-top, climb-on, passed-found, past-found}
 
 -- a machine with a node inside it is in use, and so is the node
@@ -78,7 +78,7 @@ pub data Climbs (t : Tree) (top x : ℕ) : ℕ → Climb → Type 0 where
   finds : {n : ℕ} (a : Transition) {k : Climb} → counting t n x ≡ some a → k ≡ found n (a .target) (a .cost) → Climbs t top x n k
   ends : {n : ℕ} {k : Climb} → t .owner n ≡ some top → counting t n x ≡ none → k ≡ passed 0 → Climbs t top x n k
   leaves : {n m h : ℕ} {k up : Climb} → t .owner n ≡ some m → (m ≡ top → ⊥) → t .holder m ≡ some h → counting t n x ≡ none
-      → k ≡ past (leaving t m) up → Climbs t top x h up → Climbs t top x n k
+      → k ≡ past (t .leave m) up → Climbs t top x h up → Climbs t top x n k
 
 climbs-top : {t : Tree} {top n : ℕ} (x : ℕ) (o : Option Transition) → counting t n x ≡ o → t .owner n ≡ some top → Climbs t top x n (climb t top n x)
 climbs-top {t} {top} {n} x (some a) has e = finds a has (climb-own t top n x a has)
@@ -126,20 +126,20 @@ past-beyond j l up (passed c) = past-past j (c + l) up ∙ ap (λ (d : ℕ). pas
 
 -- a climb from a node inside b, which node h inside top holds, seen from top
 climb-wider-by : {t : Tree} → Sound t → {top b h n : ℕ} (x : ℕ) {k : Climb} → t .holder b ≡ some h → Inside t top h → Inside t b n → Climbs t b x n k
-    → climb t top n x ≡ beyond (leaving t b) (climb t top h x) k
-climb-wider-by {t} s {top} {b} {h} {n} x hold upper i (finds a has at) = climb-own t top n x a has ∙ sym (ap (beyond (leaving t b) (climb t top h x)) at)
+    → climb t top n x ≡ beyond (t .leave b) (climb t top h x) k
+climb-wider-by {t} s {top} {b} {h} {n} x hold upper i (finds a has at) = climb-own t top n x a has ∙ sym (ap (beyond (t .leave b) (climb t top h x)) at)
 climb-wider-by {t} s {top} {b} {h} {n} x hold upper i (ends o has at) =
     climb-on s top x o (inside-apart s hold upper i o) hold has
-    ∙ ap (λ (l : ℕ). past l (climb t top h x)) (sym (zero-add (leaving t b)))
-    ∙ sym (ap (beyond (leaving t b) (climb t top h x)) at)
+    ∙ ap (λ (l : ℕ). past l (climb t top h x)) (sym (zero-add (t .leave b)))
+    ∙ sym (ap (beyond (t .leave b) (climb t top h x)) at)
 climb-wider-by s x hold upper (own o′) (leaves o other held has at up) = absurd (other cc)
 climb-wider-by {t} s {top} {b} {h} {n} x hold upper (deeper {h = g′} o′ other′ held′ inner) (leaves {m = m} {h = g} {up = k} o other held has at up) =
     let same : g′ ≡ g = cc in
     climb-on s top x o (inside-apart s hold upper (deeper o′ other′ held′ inner) o) held has
-    ∙ ap (past (leaving t m)) (climb-wider-by s x hold upper (subst (Inside t b) same inner) up)
-    ∙ past-beyond (leaving t m) (leaving t b) (climb t top h x) k
-    ∙ sym (ap (beyond (leaving t b) (climb t top h x)) at)
+    ∙ ap (past (t .leave m)) (climb-wider-by s x hold upper (subst (Inside t b) same inner) up)
+    ∙ past-beyond (t .leave m) (t .leave b) (climb t top h x) k
+    ∙ sym (ap (beyond (t .leave b) (climb t top h x)) at)
 
 pub climb-wider : {t : Tree} → Sound t → {top b h n : ℕ} (x : ℕ) → t .holder b ≡ some h → Inside t top h → Inside t b n
-    → climb t top n x ≡ beyond (leaving t b) (climb t top h x) (climb t b n x)
+    → climb t top n x ≡ beyond (t .leave b) (climb t top h x) (climb t b n x)
 climb-wider s x hold upper i = climb-wider-by s x hold upper i (climbs s x i)

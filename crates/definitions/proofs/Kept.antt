@@ -13,7 +13,7 @@ use borrow.Author.Tests.{eq-eqb, ne-eqb, eqb-false}
 use Rattle.definitions.specs.Basics.{_>>=_, unless, put, iterate, All}
 use Rattle.definitions.specs.Limits.{machines, nodes, commands, costs, levels}
 use Rattle.definitions.specs.Tree.{Tree, Transition, withRoot, withNodeHold, withStartOf, Sound, parent, level, within}
-use Rattle.definitions.specs.Stream.{Edit, begin, add, refine, remove, arrow, clear, start, crown, hold, Command, edit, refresh}
+use Rattle.definitions.specs.Stream.{Edit, begin, add, refine, remove, arrow, clear, start, crown, hold, leave, Command, edit, refresh}
 use Rattle.definitions.specs.Stream.{byteAt, pairAt, decode, taken}
 use Rattle.definitions.specs.Edit.{refusal, edited, HoldReleased, single, heldWithin, without, withTransition, withStart, withMachine, withHeld, treeAfter}
 use Rattle.definitions.specs.Load.{next, load, expected}
@@ -23,7 +23,7 @@ use Rattle.definitions.proofs.Path.{Deep, at-root, under, deep, deep-sm
 use Rattle.definitions.proofs.Words.{same-tree, hold-zero, unused-below, unused-hold, unused-holder}
 use Rattle.definitions.proofs.Commands.{TakenBegin, taken-begin, TakenAdd, taken-add, TakenRefine, taken-refine}
 use Rattle.definitions.proofs.Commands.{TakenRemove, taken-remove, TakenArrow, taken-arrow, TakenStart, taken-start}
-use Rattle.definitions.proofs.Commands.{TakenCrown, taken-crown, TakenHold, taken-hold, hold-taken, within-top, within-up}
+use Rattle.definitions.proofs.Commands.{TakenCrown, taken-crown, TakenHold, taken-hold, hold-taken, TakenLeave, taken-leave, within-top, within-up}
 use Rattle.definitions.proofs.Streams.{read-taken, next-taken, load-induction}
 
 -- ---- functions changed at one number, and values taken away
@@ -38,6 +38,11 @@ pub put-some : {A : Type 0} (f : ℕ → Option A) (k : ℕ) (v : A) (n : ℕ) {
 put-some f k v n e =
     ⊎-elim (λ same. inl (same, some-same (put-here f k (some v) n same) e)) (λ other. inr (sym (put-other f k (some v) n other) ∙ e))
     (equal-or-not n k)
+
+-- what has none after a value was put somewhere had none before
+put-none : (f : ℕ → Option ℕ) (k v n : ℕ) → put f k (some v) n ≡ none → f n ≡ none
+put-none f k v n e =
+    ⊎-elim (λ here. absurd (none-some e (put-here f k (some v) n here))) (λ away. sym (put-other f k (some v) n away) ∙ e) (equal-or-not n k)
 
 -- an old value stays where the function is changed at a number that had none
 put-kept : {A : Type 0} (f : ℕ → Option A) (k : ℕ) (v : Option A) → f k ≡ none → {n : ℕ} {a : A} → f n ≡ some a → put f k v n ≡ some a
@@ -127,6 +132,9 @@ single-sound {m} {n} k =
       hold-range = λ i. omega arith;
       hold-used = λ i e. absurd (omega arith);
       hold-start = λ p f e. refl;
+      leave-range = λ p. omega arith;
+      leave-used = λ p e. refl;
+      leave-root = refl;
       climbs = λ p f e. (0, omega arith, deep-climbs (at-root (only m n p f e .0)));
     }
   where
@@ -163,6 +171,9 @@ add-sound {t} s {m} {n} k =
       hold-range = s .hold-range;
       hold-used = λ i e. let (p, own) = s .hold-used i e in (p, kept i p own);
       hold-start = s .hold-start;
+      leave-range = s .leave-range;
+      leave-used = s .leave-used;
+      leave-root = s .leave-root;
       climbs = climbs-kept s (edited t (add m n)) refl (λ p h e. e) kept;
     }
 
@@ -197,11 +208,11 @@ module _ {t : Tree} {m f b n : ℕ} (k : Graft t m f b n) where
   holders : Stays (t .holder) (put (t .holder) b (some n))
   holders p i e = put-kept (t .holder) b (some n) (k .free) e
 
--- such a tree is sound, if its root is in use and not held, and every machine climbs to it
+-- such a tree is sound, if its root is in use, not held and left at no cost, and every machine climbs to it
 grafted-sound : {t : Tree} → Sound t → (root : ℕ) {m f b n : ℕ} → Graft t m f b n
-    → (g : ℕ) × (put (t .start) m (some f) root ≡ some g) → put (t .holder) b (some n) root ≡ none
+    → (g : ℕ) × (put (t .start) m (some f) root ≡ some g) → put (t .holder) b (some n) root ≡ none → t .leave root ≡ 0
     → ((p i : ℕ) → put (t .start) m (some f) p ≡ some i → Climbs (grafted t root m f b n) p) → Sound (grafted t root m f b n)
-grafted-sound {t} s root {m} {f} {b} {n} k used free climbs =
+grafted-sound {t} s root {m} {f} {b} {n} k used free none-spent climbs =
     record {
       root-used = used;
       root-free = free;
@@ -233,6 +244,9 @@ grafted-sound {t} s root {m} {f} {b} {n} k used free climbs =
       hold-used = λ i e. let (p, own) = s .hold-used i e in (p, owners k i p own);
       hold-start = λ p i e.
           ⊎-elim (λ new. rw (← new .1) (unused-hold t s f (k .node-new))) (s .hold-start p i) (put-some (t .start) m f p e);
+      leave-range = s .leave-range;
+      leave-used = λ p e. s .leave-used p (put-none (t .start) m f p e);
+      leave-root = none-spent;
       climbs = climbs;
     }
   where
@@ -257,7 +271,7 @@ refine-sound {t} s {n} {m} {f} k =
       held-used = (f, put-same (t .start) m (some f));
     } in
     grafted-sound s (t .root) g (r, starts g (t .root) r root)
-    (put-other (t .holder) m (some n) (t .root) (λ same. none-some (k .machine-new) (rw same at root)) ∙ s .root-free)
+    (put-other (t .holder) m (some n) (t .root) (λ same. none-some (k .machine-new) (rw same at root)) ∙ s .root-free) (s .leave-root)
     (λ p i e.
     ⊎-elim
     (λ new. climbs-under s u refl (holders g) (owners g) p n q up (k .not-lowest) (put-here (t .holder) m (some n) p (new .0)))
@@ -283,7 +297,7 @@ crown-sound {t} s {m} {n} k =
     under {h = n} (put-same (t .holder) (t .root) (some n)) own (at-root refl) in
     grafted-sound s m g (n, put-same (t .start) m (some n))
     (put-other (t .holder) (t .root) (some n) m (λ same. none-some (k .machine-new) (rw (← same) at root))
-    ∙ unused-holder t s m (k .machine-new))
+    ∙ unused-holder t s m (k .machine-new)) (s .leave-used m (k .machine-new))
     (λ p i e.
     ⊎-elim (λ new. (0, omega arith, deep-climbs {t = grafted t m m n (t .root) n} (at-root (new .0))))
     (climbs-onto s base (holders g) (owners g) room p i) (put-some (t .start) m n p e))
@@ -315,10 +329,14 @@ deep-left {t} s n (under {h = h} held up way) off =
     let stays : within t n h ≡ false = rw held at off in
     under {h = h} (unless-kept off held) (unless-kept stays up) (deep-left s n way (kept-up s n up stays))
 
--- what is left of a hold
-left-range : (b : Bool) {h : ℕ} → h < 2 → cond b 0 h < 2
+-- what is left of a hold, and of a leaving cost
+left-range : (b : Bool) {h k : ℕ} → h < k → cond b 0 h < k
 left-range true small = omega arith
 left-range false small = small
+
+left-unused : (b : Bool) {o : Option ℕ} {h : ℕ} → (o ≡ none → h ≡ 0) → unless b o ≡ none → cond b 0 h ≡ 0
+left-unused true f e = refl
+left-unused false f e = f e
 
 left-one : (b : Bool) {h : ℕ} → cond b 0 h ≡ 1 → (b ≡ false) × (h ≡ 1)
 left-one true e = absurd (omega arith)
@@ -372,6 +390,9 @@ remove-sound {t} s {n} k =
           let (p, own) = s .hold-used i one in
           (p, unless-kept off own);
       hold-start = λ p f e. let (off, used) = machine p f e in left-zero (within t n f) (s .hold-start p f used);
+      leave-range = λ p. left-range (heldWithin t n p) (s .leave-range p);
+      leave-used = λ p e. left-unused (heldWithin t n p) (s .leave-used p) e;
+      leave-root = left-zero (heldWithin t n (t .root)) (s .leave-root);
       climbs = λ p f e.
           let (off, used) = machine p f e in
           let (j, small, way) = deep s used in
@@ -421,6 +442,9 @@ transition-sound {t} s n x o range owned =
       hold-range = s .hold-range;
       hold-used = s .hold-used;
       hold-start = s .hold-start;
+      leave-range = s .leave-range;
+      leave-used = s .leave-used;
+      leave-root = s .leave-root;
       climbs = climbs-kept s (withTransition t n x o) refl (λ m h e. e) (λ i m e. e);
     }
   where
@@ -472,6 +496,9 @@ restarted-sound {t} s {n} {m} own free =
       hold-range = s .hold-range;
       hold-used = s .hold-used;
       hold-start = λ p f e. ⊎-elim (λ new. rw (← new .1) free) (s .hold-start p f) (put-some (t .start) m n p e);
+      leave-range = s .leave-range;
+      leave-used = λ p e. s .leave-used p (put-none (t .start) m n p e);
+      leave-root = s .leave-root;
       climbs = λ p f e. let (g, used) = was p f e in climbs-kept s (withStartOf t m (some n)) refl (λ q h a. a) (λ i q a. a) p g used;
     }
   where
@@ -513,12 +540,47 @@ hold-sound {t} s {n} {b} k =
           let other : b ≡ 1 → ⊥ = λ one. k .no-start one p (rw here at (s .start-owned p f e)) (rw here at e) in
           put-here (t .hold) n b f here ∙ omega (arith, k .hold-range))
           (λ away. put-other (t .hold) n b f away ∙ s .hold-start p f e) (equal-or-not f n);
+      leave-range = s .leave-range;
+      leave-used = s .leave-used;
+      leave-root = s .leave-root;
       climbs = climbs-kept s (edited t (hold n b)) refl (λ m h e. e) (λ i m e. e);
+    }
+
+-- ---- leave
+
+-- the tree where leaving a machine that is not the root costs something else
+pub leave-sound : {t : Tree} → Sound t → {m : ℕ} → TakenLeave t m → {c : ℕ} → c < costs → Sound (edited t (leave m c))
+unfolding edited
+leave-sound {t} s {m} k {c} small =
+    record {
+      root-used = s .root-used;
+      root-free = s .root-free;
+      machine-range = s .machine-range;
+      node-range = s .node-range;
+      owner-used = s .owner-used;
+      start-owned = s .start-owned;
+      below-held = s .below-held;
+      held-below = s .held-below;
+      holder-used = s .holder-used;
+      held-used = s .held-used;
+      transition-range = s .transition-range;
+      transition-owned = s .transition-owned;
+      hold-range = s .hold-range;
+      hold-used = s .hold-used;
+      hold-start = s .hold-start;
+      leave-range = λ p.
+          ⊎-elim (λ here. rw (put-here (t .leave) m c p here) small) (λ away. rw (put-other (t .leave) m c p away) (s .leave-range p))
+          (equal-or-not p m);
+      leave-used = λ p e.
+          ⊎-elim (λ here. absurd (none-some (rw here at e) (k .machine-used .1))) (λ away. put-other (t .leave) m c p away ∙ s .leave-used p e)
+          (equal-or-not p m);
+      leave-root = put-other (t .leave) m c (t .root) (λ same. k .not-root (sym same)) ∙ s .leave-root;
+      climbs = climbs-kept s (edited t (leave m c)) refl (λ p h e. e) (λ i p e. e);
     }
 
 -- ---- all edits
 
--- the cost that an arrow brings is less than 65,536
+-- the cost that an arrow or a leaving cost brings is less than 65,536
 abbrev pub CostInRange : Edit → Type 0
 CostInRange (begin m n) = Unit
 CostInRange (add m n) = Unit
@@ -529,6 +591,7 @@ CostInRange (clear n x) = Unit
 CostInRange (start n) = Unit
 CostInRange (crown m n) = Unit
 CostInRange (hold n b) = Unit
+CostInRange (leave m c) = c < costs
 
 -- an edit that is taken leaves a sound tree sound
 pub edited-sound : {t : Tree} → Sound t → (e : Edit) → CostInRange e → refusal t (edit e) ≡ 0 → Sound (edited t e)
@@ -541,6 +604,7 @@ edited-sound {t} s (clear n x) range ok = clear-sound s n x
 edited-sound {t} s (start n) range ok = start-sound s (taken-start t n ok)
 edited-sound {t} s (crown m n) range ok = crown-sound s (taken-crown t m n ok)
 edited-sound {t} s (hold n b) range ok = hold-sound s (taken-hold t n b ok)
+edited-sound {t} s (leave m c) range ok = leave-sound s (taken-leave t m c ok) range
 
 -- a hold and its release give back the tree
 pub hold-released : HoldReleased
@@ -558,7 +622,8 @@ hold-released t n s off ok =
       same-tree _ t refl (λ i. refl) (λ i. refl) (λ i. refl) (λ i. refl) (λ i x. refl)
           (λ i.
           ⊎-elim (λ same. rw same (put-same (put (t .hold) n 1) n 0 ∙ sym (hold-zero t s n off)))
-          (λ other. put-other (put (t .hold) n 1) n 0 i other ∙ put-other (t .hold) n 1 i other) (equal-or-not i n)),
+          (λ other. put-other (put (t .hold) n 1) n 0 i other ∙ put-other (t .hold) n 1 i other) (equal-or-not i n))
+          (λ p. refl),
     )
 
 -- ---- streams of bytes
@@ -607,7 +672,8 @@ decode-range op bytes h =
     (either-way W (eqb op 0x14) (pair-small bytes h 5)
     (either-way W (eqb op 0x15) tt
     (either-way W (eqb op 0x16) tt
-    (either-way W (eqb op 0x17) tt (either-way W (eqb op 0x18) tt (either-way W (eqb op 0x1A) tt tt)))))))))
+    (either-way W (eqb op 0x17) tt
+    (either-way W (eqb op 0x18) tt (either-way W (eqb op 0x1A) tt (either-way W (eqb op 0x1B) (pair-small bytes h 1) tt))))))))))
 
 -- the rest of a list of bytes is one
 pub drop-bytes : (size : ℕ) (bytes : List ℕ) → Bytes bytes → Bytes (drop size bytes)

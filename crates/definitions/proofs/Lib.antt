@@ -8,9 +8,11 @@ pub mod Inside
 pub mod Exits
 pub mod Local
 pub mod Potential
+pub mod Alone
 pub mod Realize
 pub mod LocalTruth
 pub mod Simple
+pub mod Reached
 pub mod Commands
 pub mod Worked
 pub mod Streams

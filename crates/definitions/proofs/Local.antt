@@ -2,12 +2,13 @@
 -- what stands in a row can be had, `Relaxed` that nothing is cheaper. Assumes nothing.
 use mathlib.Core.Path.{_≡_, refl, ap}
 use mathlib.Core.Bool.{true, false}
-use mathlib.Core.Option.{none, some}
+use mathlib.Core.Option.{Option, none, some}
 use Prim.Native.Nat.{ℕ, _+_, _≤_, _<_}
+use native.Mathlib.Nat.{add-zero}
 use Rattle.definitions.specs.Basics.{_>>=_, iterate}
 use Rattle.definitions.specs.Limits.{commands, longestChain}
 use Rattle.definitions.specs.Tree.{Tree, Transition, parent}
-use Rattle.definitions.specs.Step.{counting, leaving, Arrival}
+use Rattle.definitions.specs.Step.{counting, Arrival}
 use Rattle.definitions.specs.Sheet.{Rows}
 use Rattle.definitions.specs.Truth.{nodeExit, move, BlankNode, BlankRule, Named, Ended}
 use Rattle.definitions.proofs.Options.{bind-some, some-same}
@@ -46,15 +47,24 @@ module _ (t : Tree) (r : Rows) (n x : ℕ) where
   unfolding nodeExit
   exit-plain b = rw b
 
-  -- a refined node is left at the exit cost of the machine below it
-  pub exit-refined : {b d : ℕ} → t .below n ≡ some b → r .exit b x ≡ some d → nodeExit t r n x ≡ some (d + leaving t b)
+  -- a refined node is left at the exit cost of the machine below it and what leaving this costs
+  pub exit-refined : {b d : ℕ} → t .below n ≡ some b → r .exit b x ≡ some d → nodeExit t r n x ≡ some (d + t .leave b)
   unfolding nodeExit
   exit-refined b e = rw (b, e)
 
-  pub refined-exit : {b c : ℕ} → t .below n ≡ some b → nodeExit t r n x ≡ some c → (d : ℕ) × (r .exit b x ≡ some d) × (d + leaving t b ≡ c)
+  -- where leaving this costs nothing, at its exit cost alone (document 02, W-207)
+  pub exit-free : {b : ℕ} → t .below n ≡ some b → t .leave b ≡ 0 → nodeExit t r n x ≡ r .exit b x
+  unfolding nodeExit
+  exit-free {b} bel free = rw (bel, free) (alone (r .exit b x))
+    where
+      alone : (o : Option ℕ) → (o >>= λ e. some (e + 0)) ≡ o
+      alone none = refl
+      alone (some e) = ap some (add-zero e)
+
+  pub refined-exit : {b c : ℕ} → t .below n ≡ some b → nodeExit t r n x ≡ some c → (d : ℕ) × (r .exit b x ≡ some d) × (d + t .leave b ≡ c)
   unfolding nodeExit
   refined-exit {b} {c} bel e =
-      let (d, exit, same) = bind-some (r .exit b x) (λ d. some (d + leaving t b)) (rw bel at e) in
+      let (d, exit, same) = bind-some (r .exit b x) (λ d. some (d + t .leave b)) (rw bel at e) in
       (d, exit, some-same refl same)
 
   -- a move is a transition and an exit cost

@@ -18,12 +18,13 @@ use Rattle.definitions.specs.Sheet.{Rows}
 use Rattle.definitions.specs.Truth.{nodeExit, move, LeastInside, TrueMachine, TrueRows}
 use Rattle.definitions.proofs.Options.{none-some, some-same, true-false, decided}
 use Rattle.definitions.proofs.Path.{parent-below, enters, enters-state, Inside, own, counting-owned, climb-own, climb-top, passed-found}
-use Rattle.definitions.proofs.Reaching.{run-on, Reaches, Led, named-reaches, least-reaches}
+use Rattle.definitions.proofs.Reaching.{run-on, least-reaches}
 use Rattle.definitions.proofs.Inside.{inside-apart}
 use Rattle.definitions.proofs.Local.{Relaxed, Attained, LocalRows, exit-plain, move-by, move-parts}
-use Rattle.definitions.proofs.Potential.{Shut, Lands, here, Frame, Potential, base, Comes, comes, potential-enters, raised-run}
+use Rattle.definitions.proofs.Potential.{Frame, Potential, Comes, comes, raised-run}
 use Rattle.definitions.proofs.Exits.{exit-parts, start-enters}
-use Rattle.definitions.proofs.Realize.{Had, had, had-at}
+use Rattle.definitions.proofs.Alone.{only, is-only, FilledUnder, only-frame, only-potential}
+use Rattle.definitions.proofs.Realize.{row-led, attained-walk, Had, had, had-at}
 
 -- below a filled machine every machine is filled
 pub filled-below : (t : Tree) (r : Rows) → ((m p : ℕ) → r .stale m ≡ true → parent t m ≡ some p → r .stale p ≡ true)
@@ -37,29 +38,6 @@ move-owned {t} s r n x {m} own-n e =
     subst (λ (v : ℕ). t .owner v ≡ some m) (parts .target) (counting-owned s n x (parts .transition) (parts .has) own-n)
 
 -- ---- the costs of nodes
-
--- the names of a row, under its moves
-row-led : (t : Tree) (r : Rows) {m f : ℕ} → Attained t r m f → (n c : ℕ) → t .owner n ≡ some m → (n ≡ f → ⊥) → r .cost n ≡ some c
-    → Led (move t r) (λ u. t .owner u ≡ some m) (r .cost) (r .before) n c
-row-led t r row n c own-n other cost =
-    let name = row .named n c own-n other cost in
-    record {
-      node = name .node;
-      command = name .command;
-      node-cost = name .node-cost;
-      step-cost = name .step-cost;
-      names = name .before;
-      holds = name .owned;
-      reached = name .reached;
-      moves = name .moves;
-      exact = name .exact;
-    }
-
--- what a row's names lead to is a list of moves
-attained-walk : (t : Tree) (r : Rows) {m f : ℕ} → Attained t r m f → (n c : ℕ) → t .owner n ≡ some m → r .cost n ≡ some c → Reaches (move t r) f n c
-attained-walk t r {m} row n c own-n cost =
-    let (k, short, way) = row .chain n c own-n cost in
-    named-reaches (move t r) (λ u. t .owner u ≡ some m) (r .cost) (r .before) (row .start-cost) (row .start-before) (row-led t r row) k n c own-n cost way
 
 -- the cost that stands there is the least
 least-walk : {t : Tree} → Sound t → (r : Rows) {m f : ℕ} → t .start m ≡ some f → Relaxed t r m f → Attained t r m f → (n : ℕ) → t .owner n ≡ some m
@@ -76,56 +54,16 @@ free-passed : (t : Tree) (top n x l : ℕ) → climb t top n x ≡ passed l → 
 free-passed t top n x l up none e = e
 free-passed t top n x l up (some a) e = absurd (passed-found up (climb-own t top n x a e))
 
--- the transition that a climb in a node's own machine finds
-own-found : (t : Tree) (m n x : ℕ) {u v c : ℕ} → t .owner n ≡ some m → climb t m n x ≡ found u v c → (o : Option Transition) → counting t n x ≡ o
-    → (a : Transition) × (counting t n x ≡ some a) × (a .target ≡ v) × (a .cost ≡ c)
-own-found t m n x own-n up none e = absurd (passed-found (climb-top t m n x own-n e) up)
-own-found t m n x own-n up (some a) e =
-    let same = sym (climb-own t m n x a e) ∙ up in
-    (a, e, cc, cc)
-
 module _ (t : Tree) (s : Sound t) (r : Rows) (local : LocalRows t r) (m f : ℕ) (st : t .start m ≡ some f) (full : r .stale m ≡ false) where
-  -- the one machine opened
-  abbrev only : ℕ → Bool
-  only p = eqb p m
-
-  is-only : {n p : ℕ} → t .owner n ≡ some p → only p ≡ true → t .owner n ≡ some m
-  is-only {n} {p} own-n op = subst (λ (k : ℕ). t .owner n ≡ some k) (eqb-true p m op) own-n
-
-  -- machine m is not below a node inside it
-  only-shut : {n b : ℕ} → Inside t m n → t .below n ≡ some b → only b ≡ false
-  only-shut {n} {b} i bel =
-      let hold = s .below-held n b bel in
-      let (g, used) = s .held-used b n hold in
-      let first = s .start-owned b g used in
-      ne-eqb b m (inside-apart s hold i (own first) first)
-
   all-filled : (p q : ℕ) → parent t p ≡ some q → r .stale q ≡ false → r .stale p ≡ false
   all-filled = filled-below t r (local .stale-above)
 
-  only-moves : (q p d x u v c e : ℕ) → t .owner q ≡ some p → only p ≡ true → Shut t only q → r .cost q ≡ some d
-      → climb t m q x ≡ found u v c → nodeExit t r q x ≡ some e
-      → (w : ℕ) × (p′ : ℕ) × (d′ : ℕ) × Lands t only v w × (t .owner w ≡ some p′) × (only p′ ≡ true) × (r .cost w ≡ some d′) × (d′ ≤ d + e + c)
-  only-moves q p d x u v c e own-q op shut cost up exit =
-      let own-m = is-only own-q op in
-      let (a, has, target, price) = own-found t m q x own-m up (counting t q x) refl in
-      let own-v : t .owner v ≡ some m = subst (λ (k : ℕ). t .owner k ≡ some m) target (counting-owned s q x a has own-m) in
-      let (d′, cost′, le) = local .relaxed m f st full .moves q d x _ own-m cost (move-by t r q x has exit) in
-      let cost-v : r .cost v ≡ some d′ = subst (λ (k : ℕ). r .cost k ≡ some d′) target cost′ in
-      (v, m, d′, here (λ b bel. only-shut (own own-v) bel), own-v, eq-eqb m m refl, cost-v, omega (arith, price))
+  -- the machine opened, with the costs of its row
+  under : FilledUnder t r m
+  under n b own-n bel = all-filled b m (parent-below s own-n bel) full
 
-  only-frame : Frame t r m only (r .cost)
-  only-frame =
-      record {
-        sound = s;
-        top-opened = eq-eqb m m refl;
-        inside = λ n p own-n op. own (is-only own-n op);
-        shut-below = λ n p b i own-n shut bel. only-shut i bel;
-        relaxed = local .relaxed;
-        filled-below = all-filled;
-        filled = λ n p b own-n op bel shut. all-filled b m (parent-below s (is-only own-n op) bel) full;
-        moves = only-moves;
-      }
+  frame : Frame t r m (only m) (r .cost)
+  frame = only-frame s r (local .relaxed) all-filled m under (r .cost) (local .relaxed m f st full .moves)
 
   -- no exit is cheaper than the one that stands there
   exit-low : (x c : ℕ) → x < commands → Had t m x c → (d : ℕ) × (r .exit m x ≡ some d) × (d ≤ c)
@@ -134,14 +72,16 @@ module _ (t : Tree) (s : Sound t) (r : Rows) (local : LocalRows t r) (m f : ℕ)
       let own-f = s .start-owned m f st in
       let (g, en) = enters s own-f in
       let begins : g ≡ parts .state = some-same (start-enters s st en) (parts .begins) in
-      let first = base own-f (eq-eqb m m refl) (λ b bel. only-shut (own own-f) bel) (local .relaxed m f st full .start-cost) in
-      let pot = subst (λ (n : ℕ). Potential t r only (r .cost) n 0) begins (potential-enters t r m only (r .cost) only-frame first en) in
+      let row = local .relaxed m f st full in
+      let pot =
+      subst (λ (n : ℕ). Potential t r (only m) (r .cost) n 0) begins
+      (only-potential s r (local .relaxed) all-filled m under (r .cost) (row .moves) own-f (row .start-cost) en) in
       let plain-g : t .below (parts .state) ≡ none = subst (λ (n : ℕ). t .below n ≡ none) begins (enters-state s en own-f .2) in
-      let (q, pot-q, plain-q, le) = raised-run t r m only (r .cost) only-frame pot plain-g xs (parts .at) (parts .runs) in
-      let come = comes t r m only (r .cost) only-frame pot-q 0 x range (exit-plain t r (parts .at .node) x plain-q) in
-      let left : Comes t r m only (r .cost) only-frame q 0 x (passed (parts .left)) = subst (Comes t r m only (r .cost) only-frame q 0 x) (parts .climbs) come in
+      let (q, pot-q, plain-q, le) = raised-run t r m (only m) (r .cost) frame pot plain-g xs (parts .at) (parts .runs) in
+      let come = comes t r m (only m) (r .cost) frame pot-q 0 x range (exit-plain t r (parts .at .node) x plain-q) in
+      let left : Comes t r m (only m) (r .cost) frame q 0 x (passed (parts .left)) = subst (Comes t r m (only m) (r .cost) frame q 0 x) (parts .climbs) come in
       let (n, p, d, e′, l′, own-n, op, cost, exit, up, le′) = left in
-      let (k, out, small) = local .relaxed m f st full .exits n d x e′ (is-only own-n op) cost range (free-passed t m n x l′ up (counting t n x) refl) exit in
+      let (k, out, small) = row .exits n d x e′ (is-only t m own-n op) cost range (free-passed t m n x l′ up (counting t n x) refl) exit in
       (k, out, omega (arith, parts .exact))
 
   -- so the exit cost that stands there is the least

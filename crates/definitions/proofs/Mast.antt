@@ -1,5 +1,5 @@
--- The mast book of document 01: its starred examples, by computing with the definitions; the claims of W-202, W-203, W-205 and W-206 on it; and that
--- an exit may end inside its machine. Assumes nothing.
+-- The mast book of document 01: its starred examples, by computing with the definitions; the claims of W-202, W-203 and W-205 to W-207 on it; and
+-- that an exit may end inside its machine. Assumes nothing.
 use mathlib.Core.Path.{_≡_, refl, _∙_}
 use mathlib.Core.Logic.{inl, inr}
 use mathlib.Core.Bool.{false}
@@ -10,10 +10,10 @@ use native.Mathlib.Omega.{arith}
 use lib.ListN.{length, getD, set}
 use lib.IntN.{negsuc}
 use lib.Ieee.{Float, fin, sub}
-use Rattle.definitions.specs.Basics.{iterate, countBelow, anyOf, anyBelow, All, Distinct}
+use Rattle.definitions.specs.Basics.{iterate, joined, countBelow, anyOf, anyBelow, All, Distinct}
 use Rattle.definitions.specs.Limits.{nodes, commands, mostWalkers}
-use Rattle.definitions.specs.Tree.{Tree, Sound, UsedNode, states, above, pathF, path, level, within}
-use Rattle.definitions.specs.Step.{enterF, enter, counting, leaving, look, climb, stepIn, step, acting, Moves, runBy, passes}
+use Rattle.definitions.specs.Tree.{Tree, Transition, Sound, UsedNode, states, above, pathF, path, level, within}
+use Rattle.definitions.specs.Step.{enterF, enter, counting, look, climb, stepIn, step, acting, Moves, runBy, passes}
 use Rattle.definitions.specs.Costs.{LeastCost, ExitCost}
 use Rattle.definitions.specs.Book.{under, encode, treeOf, WellFormed}
 use Rattle.definitions.specs.Sheet.{Rows, encodeRows}
@@ -26,6 +26,7 @@ use Rattle.definitions.specs.Answer.{Answer, gives, refuses, InOrder}
 use Rattle.definitions.specs.Calls.{Acts, Plan, GivesStep, StepSays, LoadAnswer, LoadSays}
 use Rattle.definitions.specs.Demand.{Bytes}
 use Rattle.definitions.specs.Import.{took, ImportSays, Placed}
+use Rattle.definitions.specs.Write.{writtenBegin, writtenAdd, writtenRefine, writtenArrow, writtenHold, writtenLeave, written}
 use Rattle.definitions.specs.Walk.{inside, comesInside, handedRefusals, walkRefusals, OpenWalkersSay, WalkSays, AtMostInside}
 use Rattle.definitions.specs.Mast.{mastStream, clearing, mastAfter, mastTree, RefusedWith16, MastExamples}
 use Rattle.definitions.proofs.Options.{none-some, true-false}
@@ -37,7 +38,8 @@ use Rattle.definitions.proofs.Tests.{all-under, bound-least, bound-plan
 use Rattle.definitions.proofs.Tests.{tested-exit, tested-sheet, tested-refused}
 use Rattle.definitions.proofs.Words.{treeOf-encode, encode-well-formed}
 use Rattle.definitions.proofs.Answers.{timed-same, Passed, in-order-all, in-order-after}
-use Rattle.definitions.proofs.Acting.{step-acts}
+use Rattle.definitions.proofs.Local.{exit-free}
+use Rattle.definitions.proofs.Acting.{step-acts, free-step}
 use Rattle.definitions.proofs.Imports.{import-loads}
 use Rattle.definitions.proofs.Walks.{limit-kept}
 
@@ -52,6 +54,22 @@ passing = 0x14 ∷ 0x00 ∷ 0x01 ∷ 0x02 ∷ 0x00 ∷ 0x02 ∷ 0x00 ∷ 0x06 �
 -- the stream that gives node n the hold b
 abbrev pub holding : ℕ → ℕ → List ℕ
 holding n b = 0x1A ∷ 0x00 ∷ n ∷ b ∷ []
+
+-- the stream that makes leaving machine m cost c, which is under 256
+abbrev pub charging : ℕ → ℕ → List ℕ
+charging m c = 0x1B ∷ m ∷ 0x00 ∷ c ∷ []
+
+-- the stream that gives node 11 a transition to node 10 for command 3, at cost 16
+unfoldable pub returning : List ℕ
+returning = 0x14 ∷ 0x00 ∷ 0x0B ∷ 0x03 ∷ 0x00 ∷ 0x0A ∷ 0x00 ∷ 0x10 ∷ []
+
+-- the stream that puts machine 2 below node 11, with node 20
+unfoldable pub deepening : List ℕ
+deepening = 0x12 ∷ 0x00 ∷ 0x0B ∷ 0x02 ∷ 0x00 ∷ 0x14 ∷ []
+
+-- the stream that puts machine 2 above the root, with node 20
+unfoldable pub crowning : List ℕ
+crowning = 0x17 ∷ 0x02 ∷ 0x00 ∷ 0x14 ∷ []
 
 -- ---- the costs of the states from state 0 and from state 11
 
@@ -78,13 +96,17 @@ round-11 = listed ((0, 0) ∷ (10, 5) ∷ (2, 20) ∷ [])
 out-of-1 : ℕ → Option ℕ
 out-of-1 = listed ((11, 0) ∷ (2, 3) ∷ (0, 10) ∷ [])
 
+-- from state 11 where it has a transition to 10 for 3 and leaving machine 1 costs 9
+within-1 : ℕ → Option ℕ
+within-1 = listed ((11, 0) ∷ (2, 12) ∷ (10, 16) ∷ (0, 19) ∷ [])
+
 -- ---- the rows
 
--- what stands for machine 0, and for machine 1
-two : (ℕ → ℕ) → (ℕ → ℕ) → ℕ → ℕ → Option ℕ
-two f g zero x = some (f x)
-two f g (suc zero) x = some (g x)
-two f g (suc (suc m)) x = none
+-- what stands for the machines from 0 on
+each : List (ℕ → ℕ) → ℕ → ℕ → Option ℕ
+each [] m x = none
+each (f ∷ fs) zero x = some (f x)
+each (f ∷ fs) (suc m) x = each fs m x
 
 -- The rows of the two machines. For the first commands machine 0 has these exit costs and last nodes, and its nodes have these costs
 -- and names; by all other commands it is left from node 0. Machine 1 has the same row in every example.
@@ -92,8 +114,8 @@ rowsWith : (exits lasts : List ℕ) (cost before by : List (ℕ × ℕ)) → Row
 rowsWith exits lasts cost before by =
     record {
       stale = λ m. false;
-      exit = two (λ x. getD exits x 0) (λ x. getD (0 ∷ 4 ∷ 4 ∷ []) x 0);
-      last = two (λ x. getD lasts x 0) (λ x. getD (10 ∷ 11 ∷ 11 ∷ []) x 10);
+      exit = each ((λ x. getD exits x 0) ∷ (λ x. getD (0 ∷ 4 ∷ 4 ∷ []) x 0) ∷ []);
+      last = each ((λ x. getD lasts x 0) ∷ (λ x. getD (10 ∷ 11 ∷ 11 ∷ []) x 10) ∷ []);
       cost = listed ((10, 0) ∷ (11, 4) ∷ cost);
       before = listed ((11, 10) ∷ before);
       by = listed ((11, 2) ∷ by);
@@ -114,10 +136,22 @@ loopRows = rowsFor (5 ∷ 0 ∷ 12 ∷ []) (1 ∷ 0 ∷ 2 ∷ [])
 clearedRows : Rows
 clearedRows = rowsWith (5 ∷ []) (1 ∷ []) ((0, 0) ∷ (1, 5) ∷ []) ((1, 0) ∷ []) ((1, 0) ∷ [])
 
+-- with machine 2 below node 11, where leaving it costs 4 and leaving machine 1 costs 9
+deepRows : Rows
+deepRows =
+    record {
+      stale = λ m. false;
+      exit = each ((λ x. getD (14 ∷ 0 ∷ 20 ∷ []) x 0) ∷ (λ x. getD (0 ∷ 8 ∷ 8 ∷ []) x 0) ∷ (λ x. 0) ∷ []);
+      last = each ((λ x. getD (1 ∷ 0 ∷ 2 ∷ []) x 0) ∷ (λ x. getD (10 ∷ 11 ∷ 11 ∷ []) x 10) ∷ (λ x. 20) ∷ []);
+      cost = listed ((0, 0) ∷ (1, 5) ∷ (2, 20) ∷ (10, 0) ∷ (11, 4) ∷ (20, 0) ∷ []);
+      before = listed ((1, 0) ∷ (2, 0) ∷ (11, 10) ∷ []);
+      by = listed ((1, 0) ∷ (2, 2) ∷ (11, 2) ∷ []);
+    }
+
 -- ---- to open these is to open everything that the examples compute with
 
 reading : Tree
-unfolding load loadF next expected operandLength decode readNext firstHolding refusals refusal level allUnder mastStream looping passing
+unfolding load loadF next expected operandLength decode readNext firstHolding refusals refusal level allUnder mastStream looping passing returning deepening crowning
 reading = freshTree
 
 editing : Tree
@@ -125,7 +159,7 @@ unfolding freshTree single withTransition edited mastAfter mastTree
 editing = freshTree
 
 stepping : Tree
-unfolding above pathF path enterF enter counting leaving look climb stepIn acting runBy passes countBelow states nodeExit move iterate
+unfolding above pathF path enterF enter counting look climb stepIn acting runBy passes countBelow states nodeExit move iterate
 stepping = freshTree
 
 testing : Tree
@@ -133,8 +167,8 @@ unfolding allBelow anyBelow listed accounted boundsTest under capped freshRows b
 testing = freshTree
 
 tables : Tree
-unfolding two rowsWith rowsFor mastRows loopRows clearedRows from-0 from-11 without-10-1 without-1-1 without-both
-    round-11 out-of-1
+unfolding each rowsWith rowsFor mastRows loopRows clearedRows deepRows from-0 from-11 without-10-1 without-1-1 without-both
+    round-11 out-of-1 within-1
 tables = freshTree
 
 computing : Tree
@@ -428,3 +462,65 @@ mast-by-state =
     mast-walks 10 0 (0 ∷ []) 0 0 (refuses 22) (0 ∷ [])
     (mast-judged 10 0 (0 ∷ []) (omega arith, omega arith) (omega arith, (omega arith, tt)) ((1, refl), ((0, refl), tt)) (refl, tt) refl (omega arith))
     (inr (omega arith, inr ((omega arith, omega arith), inr ((0, refl), inr (refl, inr ((_, refl), inl (λ free. true-false refl free, (refl, refl))))))))
+
+-- ---- leaving (document 02, W-207)
+
+-- The mast book, where leaving costs nothing: at 11 the step by 1 costs what node 1's transition does, and node 1's exit cost is machine 1's.
+pub mast-free : (m : ℕ) → mastTree .leave m ≡ 0
+unfolding computing
+mast-free m = refl
+
+pub mast-free-step : (b : Transition) × (counting mastTree 1 1 ≡ some b) × (b .cost ≡ 3)
+unfolding computing
+mast-free-step = free-step mastTree mast-free 11 1 1 (record { node = 2; cost = 3 }) refl refl
+
+pub mast-free-exit : nodeExit mastTree (freshRows mastRows) 1 1 ≡ some 4
+unfolding computing
+mast-free-exit = exit-free mastTree (freshRows mastRows) 1 1 refl (mast-free 1)
+
+-- with machine 2 below node 11: leaving it costs 4, and leaving machine 1 costs 9
+abbrev pub deepTree : Tree
+deepTree = mastAfter (deepening ∷ charging 1 9 ∷ charging 2 4 ∷ [])
+
+deep-sound : Sound deepTree
+unfolding computing
+deep-sound = after-sound (deepening ∷ charging 1 9 ∷ charging 2 4 ∷ []) (omega arith)
+
+-- From 20 command 1 is found at node 1: it leaves machines 2 and 1, and costs 4 + 9 + 3. Node 10 acts itself: neither leaving machine 1, which is its
+-- own, nor entering machine 2 costs anything.
+pub leaves-two : (step deepTree 20 1 ≡ some (record { node = 2; cost = 16 })) × (acting deepTree 20 1 ≡ some 1)
+    × (step deepTree 10 2 ≡ some (record { node = 20; cost = 4 }))
+unfolding computing
+leaves-two = (refl, refl, refl)
+
+-- machine 1's exit by 1 counts leaving machine 2, and not its own; the root's by 0 counts leaving machine 1
+pub exits-deep : ExitCost deepTree 1 1 (some 8) × ExitCost deepTree 0 0 (some 14)
+unfolding computing
+exits-deep = (
+  tested-exit deepTree deep-sound deepRows refl 1 10 1 (some 8) refl (omega arith) refl,
+  tested-exit deepTree deep-sound deepRows refl 0 0 0 (some 14) refl (omega arith) refl,
+)
+
+-- From 11 to 10 there is a transition inside machine 1 at 16. The way out and in again costs 15, or 24 where leaving costs 9: then the plan stays inside.
+pub stays-inside : Plan (mastAfter (returning ∷ [])) 11 10 15 (1 ∷ 0 ∷ 0 ∷ [])
+    × Plan (mastAfter (returning ∷ charging 1 9 ∷ [])) 11 10 16 (3 ∷ [])
+unfolding computing
+stays-inside = (
+  bound-plan (mastAfter (returning ∷ [])) (after-sound (returning ∷ []) (omega arith)) from-11 refl 11 (omega arith) refl 10 15 (1 ∷ 0 ∷ 0 ∷ [])
+      refl refl (omega arith),
+  bound-plan (mastAfter (returning ∷ charging 1 9 ∷ [])) (after-sound (returning ∷ charging 1 9 ∷ []) (omega arith)) within-1 refl 11 (omega arith)
+      refl 10 16 (3 ∷ []) refl refl (omega arith),
+)
+
+-- Write's stream of the mast book with a hold and a leaving cost: the holds come before what leaving costs
+pub mast-written : written (mastAfter (holding 11 1 ∷ charging 1 9 ∷ [])) ≡ mastStream ++ (holding 11 1 ++ charging 1 9)
+unfolding computing joined writtenBegin writtenAdd writtenRefine writtenArrow writtenHold writtenLeave written
+mast-written = refl
+
+-- a charge of the root is 6, one of 0 too, and so is machine 64; machine 2, which is not in use, is 7; machine 1 is taken. Under a new root the old
+-- one may be charged, and the new one not
+pub refused-charges : (load mastTree (charging 0 9) .number ≡ 6) × (load mastTree (charging 0 0) .number ≡ 6)
+    × (load mastTree (charging 64 9) .number ≡ 6) × (load mastTree (charging 2 9) .number ≡ 7) × (load mastTree (charging 1 9) .number ≡ 0)
+    × (load mastTree (crowning ++ charging 0 9) .number ≡ 0) × (load mastTree (crowning ++ charging 2 9) .number ≡ 6)
+unfolding computing
+refused-charges = (refl, refl, refl, refl, refl, refl, refl)

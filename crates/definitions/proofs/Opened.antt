@@ -154,6 +154,11 @@ ladder-open : (n : ℕ) → ladderTree .hold n ≡ 0
 unfolding ladderTree
 ladder-open n = refl
 
+-- and leaving a machine of it costs nothing
+ladder-left : (m : ℕ) → ladderTree .leave m ≡ 0
+unfolding ladderTree
+ladder-left m = refl
+
 -- the tree of Open ladder is sound
 pub ladder-sound : Sound ladderTree
 ladder-sound =
@@ -181,6 +186,9 @@ ladder-sound =
       hold-range = λ n. rw (ladder-open n) (omega arith);
       hold-used = λ n e. absurd (omega (arith, ladder-open n));
       hold-start = λ m s e. ladder-open s;
+      leave-range = λ m. rw (ladder-left m) (omega arith);
+      leave-used = λ m e. ladder-left m;
+      leave-root = ladder-left (ladderTree .root);
       climbs = λ m s e.
           let (small, same) = ladder-start m s e in
           let (j, low, way) = ladder-deep 5 m (omega (arith, ladder-levels)) small in

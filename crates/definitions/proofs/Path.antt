@@ -11,7 +11,7 @@ use native.Mathlib.Nat.{not-suc-le-zero, le-of-suc-le-suc}
 use Rattle.definitions.specs.Basics.{option, unless, isAt, iterate}
 use Rattle.definitions.specs.Limits.{levels, commands}
 use Rattle.definitions.specs.Tree.{Tree, Transition, Sound, onHold, parent, above, pathF, path, level}
-use Rattle.definitions.specs.Step.{enterF, enter, counting, leaving, leavingOf, Climb, found, passed, past, firstOf, look, climb, Lowest}
+use Rattle.definitions.specs.Step.{enterF, enter, counting, leavingOf, leavingAll, Climb, found, passed, past, firstOf, look, climb, Lowest}
 use Rattle.definitions.proofs.Options.{bind-some, some-same, unless-some, isAt-some, isAt-other}
 
 -- machine m is k machines below the root
@@ -240,14 +240,9 @@ climb-top t top n x o e = rw (e, isAt-some top top o refl)
 
 -- a node of another machine that has none: the climb goes on from the node that holds the machine, which is left
 pub climb-on : {t : Tree} → Sound t → (top x : ℕ) {n m h : ℕ} → t .owner n ≡ some m → (m ≡ top → ⊥) → t .holder m ≡ some h
-    → counting t n x ≡ none → climb t top n x ≡ past (leaving t m) (climb t top h x)
+    → counting t n x ≡ none → climb t top n x ≡ past (t .leave m) (climb t top h x)
 unfolding climb look
 climb-on {t} s top x {n} {m} {h} o other eh e = rw (path-on s o eh, e, isAt-other m top o other, o)
-
--- leaving a machine costs nothing
-pub leaving-free : (t : Tree) (m : ℕ) → leaving t m ≡ 0
-unfolding leaving
-leaving-free t m = refl
 
 -- nothing is found where the climb has passed
 pub passed-found : {k : Climb} {l u v c : ℕ} → k ≡ passed l → k ≡ found u v c → ⊥
@@ -269,11 +264,6 @@ found-own : {t : Tree} → Sound t → (x w : ℕ) (a : Transition) → counting
 found-own {t} s x w a has =
     let (m, ew, ev) = s .transition-owned w x a (counting-is t w x a has) in
     record { range = counting-range s w x a has; machine = m; node-owner = ew; target-owner = ev }
-
--- what leaving the machines of these nodes costs
-abbrev pub leavingAll : Tree → List ℕ → ℕ
-leavingAll t [] = 0
-leavingAll t (n ∷ ns) = leavingOf t n + leavingAll t ns
 
 -- On a way up a transition for x is found: that of the lowest node which has one. Its target is v, and c its cost with that of leaving the
 -- machines of the nodes below.

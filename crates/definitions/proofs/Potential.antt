@@ -11,7 +11,7 @@ use native.Mathlib.Omega.{arith}
 use native.Mathlib.Nat.{zero-add}
 use Rattle.definitions.specs.Limits.{commands}
 use Rattle.definitions.specs.Tree.{Tree, Transition, Sound, parent}
-use Rattle.definitions.specs.Step.{enter, counting, leaving, Climb, found, passed, past, climb, Arrival, follow, stepIn, runIn}
+use Rattle.definitions.specs.Step.{enter, counting, Climb, found, passed, past, climb, Arrival, follow, stepIn, runIn}
 use Rattle.definitions.specs.Sheet.{Rows}
 use Rattle.definitions.specs.Truth.{nodeExit}
 use Rattle.definitions.proofs.Options.{bind-some, none-some, some-same, true-false}
@@ -143,7 +143,7 @@ module _ (t : Tree) (r : Rows) (top : ℕ) (opened : ℕ → Bool) (distance : �
       let (s, used) = frame .sound .owner-used n m own in
       let (d, out, small) = frame .relaxed m s used full .exits n c x e own cost range has exit in
       rw (climb-on (frame .sound) top x own (not-top shut) hold has)
-      (comes-past p c e d (leaving t m) x (climb t top h x) small (up (d + leaving t m) (exit-refined t r h x (frame .sound .held-below m h hold) out)))
+      (comes-past p c e d (t .leave m) x (climb t top h x) small (up (d + t .leave m) (exit-refined t r h x (frame .sound .held-below m h hold) out)))
 
   -- no command raises the potential by more than it costs
   pub comes : {n p : ℕ} → Potential t r opened distance n p → (e x : ℕ) → x < commands → nodeExit t r n x ≡ some e → Comes p e x (climb t top n x)

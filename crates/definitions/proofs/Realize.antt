@@ -6,16 +6,17 @@ use mathlib.Core.Option.{none, some}
 use mathlib.Core.List.{List, [], _∷_, _++_}
 use Prim.Native.Nat.{ℕ, zero, suc, _+_, _≤_, _<_}
 use native.Mathlib.Omega.{arith}
+use native.Mathlib.Nat.{zero-add}
 use Rattle.definitions.specs.Limits.{commands, levels}
 use Rattle.definitions.specs.Tree.{Tree, Sound, parent}
-use Rattle.definitions.specs.Step.{enter, counting, leaving, Climb, found, passed, past, climb, Arrival, follow, stepIn, runIn}
+use Rattle.definitions.specs.Step.{enter, counting, Climb, found, passed, past, climb, Arrival, follow, stepIn, runBy, runIn}
 use Rattle.definitions.specs.Costs.{exitBy}
 use Rattle.definitions.specs.Sheet.{Rows}
-use Rattle.definitions.specs.Truth.{nodeExit, Named}
+use Rattle.definitions.specs.Truth.{nodeExit, move}
 use Rattle.definitions.proofs.Options.{bind-some, none-some, some-same}
-use Rattle.definitions.proofs.Path.{Deep, deep, deep-small, deep-below, parent-below, Enters, plain, down, enters, enters-enter, enter-enters, Inside, own, climb-own, climb-top, climb-found}
+use Rattle.definitions.proofs.Path.{Deep, deep, deep-small, deep-below, parent-below, Enters, plain, down, enters, enters-enter, enter-enters, Inside, own, counting-range, counting-owned, climb-own, climb-top, climb-found}
 use Rattle.definitions.proofs.Runs.{onto, run-first, run-cons, run-nil, run-join}
-use Rattle.definitions.proofs.Reaching.{along-names}
+use Rattle.definitions.proofs.Reaching.{Reaches, Led, named-reaches}
 use Rattle.definitions.proofs.Inside.{enters-inside, found-inside, climb-wider, beyond}
 use Rattle.definitions.proofs.Exits.{ExitParts, exit-parts, parts-exit, start-enters}
 use Rattle.definitions.proofs.Local.{Attained, exit-plain, refined-exit, move-parts}
@@ -30,7 +31,7 @@ follow-wider : {t : Tree} → Sound t → {top b h n : ℕ} (x : ℕ) {a : Arriv
 unfolding stepIn
 follow-wider s x {a} hold upper i (passed l) up e = absurd (none-some {a = a} refl e)
 follow-wider {t} s {top} {b} {h} {n} x {a} hold upper i (found u v c) up e =
-    let seen : climb t top n x ≡ found u v c = climb-wider s x hold upper i ∙ ap (beyond (leaving t b) (climb t top h x)) up in
+    let seen : climb t top n x ≡ found u v c = climb-wider s x hold upper i ∙ ap (beyond (t .leave b) (climb t top h x)) up in
     let (f, en, same) = bind-some (enter t v) (λ f. some (record { node = f; cost = c })) e in
     let way = enter-enters s (climb-found s b n x up .target-owner) en in
     let arrived : record { node = f; cost = c } ≡ a = some-same refl same in
@@ -78,7 +79,7 @@ Had t b x d = (xs : List ℕ) × (exitBy t b x xs ≡ some d)
 
 -- a node can be left at its exit cost, if the machine below it can
 leave-refined : {t : Tree} → Sound t → {top u b f e : ℕ} (x d : ℕ) → Inside t top u → t .below u ≡ some b → t .start b ≡ some f → Enters t f e
-    → (xs : List ℕ) → ExitParts t b x xs d → Leaves t top u x e (d + leaving t b)
+    → (xs : List ℕ) → ExitParts t b x xs d → Leaves t top u x e (d + t .leave b)
 leave-refined {t} s {top} {u} {b} {f} {e} x d i bel st en xs p =
     let hold = s .below-held u b bel in
     let begins : p .state ≡ e = some-same (p .begins) (start-enters s st en) in
@@ -87,9 +88,9 @@ leave-refined {t} s {top} {u} {b} {f} {e} x d i bel st en xs p =
     record {
       list = xs;
       at = p .at;
-      left = p .left + leaving t b;
+      left = p .left + t .leave b;
       runs = wide .same;
-      climbs = climb-wider s x hold i (wide .stays) ∙ ap (beyond (leaving t b) (climb t top u x)) (p .climbs);
+      climbs = climb-wider s x hold i (wide .stays) ∙ ap (beyond (t .leave b) (climb t top u x)) (p .climbs);
       exact = omega (arith, p .exact);
     }
 
@@ -110,6 +111,29 @@ leave {t} s r {top} {u} {e} {cost} x i (down {b = b} {f = f} bel st en) exit low
     subst (Leaves t top u x e) same (leave-refined s x d i bel st en xs (exit-parts t b x xs had))
 
 -- ---- following the names
+
+-- the names of a row, under its moves
+pub row-led : (t : Tree) (r : Rows) {m f : ℕ} → Attained t r m f → (n c : ℕ) → t .owner n ≡ some m → (n ≡ f → ⊥) → r .cost n ≡ some c
+    → Led (move t r) (λ u. t .owner u ≡ some m) (r .cost) (r .before) n c
+row-led t r row n c own-n other cost =
+    let name = row .named n c own-n other cost in
+    record {
+      node = name .node;
+      command = name .command;
+      node-cost = name .node-cost;
+      step-cost = name .step-cost;
+      names = name .before;
+      holds = name .owned;
+      reached = name .reached;
+      moves = name .moves;
+      exact = name .exact;
+    }
+
+-- what a row's names lead to is a list of moves
+pub attained-walk : (t : Tree) (r : Rows) {m f : ℕ} → Attained t r m f → (n c : ℕ) → t .owner n ≡ some m → r .cost n ≡ some c → Reaches (move t r) f n c
+attained-walk t r {m} row n c own-n cost =
+    let (k, short, way) = row .chain n c own-n cost in
+    named-reaches (move t r) (λ u. t .owner u ≡ some m) (r .cost) (r .before) (row .start-cost) (row .start-before) (row-led t r row) k n c own-n cost way
 
 -- From state e, where node s is entered, a list leads inside machine m to a state where node n is entered, at cost c.
 pub record Leads (t : Tree) (top e n c : ℕ) : Type 0 where
@@ -146,30 +170,33 @@ module _ (t : Tree) (s : Sound t) (r : Rows)
   abbrev Lower : ℕ → Type 0
   Lower m = (u b x d : ℕ) → t .owner u ≡ some m → t .below u ≡ some b → x < commands → r .exit b x ≡ some d → Had t b x d
 
-  -- a node is reached by its name, if the node before it is
-  leads-named : {m e n : ℕ} (c : ℕ) → Lower m → (k : Named t r m n c) → Leads t m e (k .node) (k .node-cost) → Leads t m e n c
-  leads-named {m} {e} {n} c lower k way =
-      let parts = move-parts t r (k .node) (k .command) (k .moves) in
-      let a = parts .transition in
+  -- a list that leads to a node of a machine goes on by a list of moves inside the machine
+  leads-along : {m e u c : ℕ} → Lower m → t .owner u ≡ some m → Leads t m e u c → (xs : List ℕ) {a : Arrival} → runBy (move t r) u xs ≡ some a
+      → Leads t m e (a .node) (c + a .cost)
+  leads-along {m} {e} {u} {c} lower own-u way [] {a} runs =
+      subst (λ (b : Arrival). Leads t m e (b .node) (c + b .cost)) (some-same (run-nil (move t r) u) runs) (subst (Leads t m e u) (omega arith) way)
+  leads-along {m} {e} {u} {c} lower own-u way (x ∷ xs) {a} runs =
+      let first = run-first (move t r) u x xs runs in
+      let parts = move-parts t r u x (first .step) in
+      let range = counting-range s u x (parts .transition) (parts .has) in
       let on =
-      leads-on s r (k .command) (own (k .owned)) way (parts .exit) (climb-own t m (k .node) (k .command) a (parts .has))
-      (λ b d bel. lower (k .node) b (k .command) d (k .owned) bel (k .command-range)) in
-      subst₂ (Leads t m e) (parts .target) (omega (arith, parts .exact, k .exact)) on
+      leads-on s r x (own own-u) way (parts .exit) (climb-own t m u x (parts .transition) (parts .has)) (λ b d bel. lower u b x d own-u bel range) in
+      let there : Leads t m e (first .mid .node) (c + first .mid .cost) = subst₂ (Leads t m e) (parts .target) (omega (arith, parts .exact)) on in
+      let own-v : t .owner (first .mid .node) ≡ some m =
+      subst (λ (v : ℕ). t .owner v ≡ some m) (parts .target) (counting-owned s u x (parts .transition) (parts .has) own-u) in
+      let end = leads-along lower own-v there xs (first .rest) in
+      subst (λ (b : Arrival). Leads t m e (b .node) (c + b .cost)) (first .joins) (subst (Leads t m e (first .end .node)) (omega arith) end)
+
+  -- so a node that a list of moves inside a machine reaches from its start is led to
+  leads-moves : {m f e n c : ℕ} → t .start m ≡ some f → Lower m → Enters t f e → Reaches (move t r) f n c → Leads t m e n c
+  leads-moves {m} {f} {e} {n} {c} st lower en (xs, way) =
+      subst (Leads t m e n) (zero-add c)
+      (leads-along lower (s .start-owned m f st) (record { list = []; state = e; runs = run-nil (stepIn t m) e; enters = en }) xs way)
 
   -- each reached node of a machine can be reached
   leads-in : {m f e n : ℕ} (c : ℕ) → t .start m ≡ some f → r .stale m ≡ false → Lower m → Enters t f e → t .owner n ≡ some m → r .cost n ≡ some c
       → Leads t m e n c
-  leads-in {m} {f} {e} {n} c st full lower en own-n cost =
-      let row = attained m f st full in
-      let (k, short, way) = row .chain n c own-n cost in
-      along-names (r .before) (λ u. t .owner u ≡ some m → (d : ℕ) → r .cost u ≡ some d → Leads t m e u d)
-      (λ own-f d cost-f. subst (Leads t m e f) (some-same (row .start-cost) cost-f) (record { list = []; state = e; runs = run-nil (stepIn t m) e; enters = en }))
-      (λ v u before reach own-v d cost-v.
-      let name = row .named v d own-v (λ same. none-some (row .start-before) (subst (λ (w : ℕ). r .before w ≡ some u) same before)) cost-v in
-      let same-node : u ≡ name .node = some-same before (name .before) in
-      leads-named d lower name
-      (subst (λ (w : ℕ). (t .owner w ≡ some m → (d : ℕ) → r .cost w ≡ some d → Leads t m e w d)) same-node reach (name .owned) (name .node-cost) (name .reached)))
-      k n way own-n c cost
+  leads-in {m} {f} {e} {n} c st full lower en own-n cost = leads-moves st lower en (attained-walk t r (attained m f st full) n c own-n cost)
 
   -- a reached node that has no transition that counts for x can be left by x, at its cost and its own exit cost
   had-from : {m f n : ℕ} (x c e : ℕ) → t .start m ≡ some f → r .stale m ≡ false → Lower m → x < commands → t .owner n ≡ some m → r .cost n ≡ some c
@@ -215,12 +242,18 @@ module _ (t : Tree) (s : Sound t) (r : Rows)
       let (k, small, way) = deep s st in
       had-deep x c st full way levels (omega arith) range exit
 
-  lower : {m : ℕ} → r .stale m ≡ false → Lower m
-  lower {m} full u b x d own-u bel range exit =
+  -- so can those just below a machine where they are filled, and its nodes be reached by lists of moves
+  lower : {m : ℕ} → ((u b : ℕ) → t .owner u ≡ some m → t .below u ≡ some b → r .stale b ≡ false) → Lower m
+  lower below u b x d own-u bel range exit =
       let (g, st) = s .held-used b u (s .below-held u b bel) in
-      had x d st (filled-below b m (parent-below s own-u bel) full) range exit
+      had x d st (below u b own-u bel) range exit
+
+  pub leads : {m f e n c : ℕ} → t .start m ≡ some f → ((u b : ℕ) → t .owner u ≡ some m → t .below u ≡ some b → r .stale b ≡ false) → Enters t f e
+      → Reaches (move t r) f n c → Leads t m e n c
+  leads st below en reach = leads-moves st (lower below) en reach
 
   -- every reached node of a filled row that has no transition that counts for x can be left by x, at its cost and its own exit cost
   pub had-at : {m f n : ℕ} (x c e : ℕ) → t .start m ≡ some f → r .stale m ≡ false → x < commands → t .owner n ≡ some m → r .cost n ≡ some c
       → counting t n x ≡ none → nodeExit t r n x ≡ some e → Had t m x (c + e)
-  had-at x c e st full range own-n cost free exit = had-from x c e st full (lower full) range own-n cost free exit
+  had-at {m} x c e st full range own-n cost free exit =
+      had-from x c e st full (lower (λ u b own-u bel. filled-below b m (parent-below s own-u bel) full)) range own-n cost free exit

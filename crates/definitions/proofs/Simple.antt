@@ -12,12 +12,12 @@ use lib.Dec.{eqb}
 use lib.ListN.{length}
 use borrow.Author.Tests.{eq-eqb, ne-eqb}
 use Rattle.definitions.specs.Basics.{option, isSome, isAt, countBelow, anyOf, All, Distinct}
-use Rattle.definitions.specs.Limits.{nodes, largestCost, largestPlanCost}
-use Rattle.definitions.specs.Tree.{Tree, Transition, Sound, isState, states, path, pathF, over}
-use Rattle.definitions.specs.Step.{enter, startState, counting, leaving, leavingOf, Climb, found, passed, past, firstOf, look, climb, Arrival, follow, stepIn, step, runIn, Moves, passes}
+use Rattle.definitions.specs.Limits.{nodes, costs, levels, largestStepCost, largestPlanCost}
+use Rattle.definitions.specs.Tree.{Tree, Transition, Sound, isState, states, above, path, pathF, level, over}
+use Rattle.definitions.specs.Step.{enter, startState, counting, leavingOf, Climb, found, passed, past, firstOf, look, climb, Arrival, follow, stepIn, step, runIn, Moves, passes}
 use Rattle.definitions.specs.Costs.{LeastCost, ExitCost}
 use Rattle.definitions.proofs.Options.{bind-some, none-some, some-same, and-true, equal-or-not, isAt-some, isSome-true}
-use Rattle.definitions.proofs.Path.{Deep, at-root, under, root-holder, deep, path-on, climb-found, enter-enters, enters-state, counting-is, leaving-free, Inside, own, deeper}
+use Rattle.definitions.proofs.Path.{Deep, at-root, under, root-holder, deep, path-on, climb-found, enter-enters, enters-state, counting-is, Inside, own, deeper}
 use Rattle.definitions.proofs.Runs.{onto, run-first, run-cons, run-nil}
 use Rattle.definitions.proofs.Exits.{ExitParts, exit-parts, parts-exit}
 use Rattle.definitions.proofs.Inside.{inside-owner, enters-inside, found-inside}
@@ -181,49 +181,70 @@ distinct-count k p (n ∷ ns) d all =
 -- ---- costs
 
 -- a transition that counts costs at most 65,535
-pub counting-cost : {t : Tree} → Sound t → (n x : ℕ) (a : Transition) → counting t n x ≡ some a → a .cost ≤ largestCost
+pub counting-cost : {t : Tree} → Sound t → (n x : ℕ) (a : Transition) → counting t n x ≡ some a → a .cost ≤ costs - 1
 counting-cost {t} s n x a e = omega (arith, s .transition-range n x a (counting-is t n x a e) .1)
 
--- leaving a node's machine costs nothing
-pub leaving-of : (t : Tree) (n : ℕ) → leavingOf t n ≡ 0
-leaving-of t n = go (t .owner n)
+-- leaving a node's machine costs at most 65,535
+leaving-small : {t : Tree} → Sound t → (n : ℕ) → leavingOf t n < costs
+leaving-small {t} s n = go (t .owner n)
   where
-    go : (o : Option ℕ) → option 0 (leaving t) o ≡ 0
-    go none = refl
-    go (some m) = leaving-free t m
+    go : (o : Option ℕ) → option 0 (t .leave) o < costs
+    go none = omega arith
+    go (some m) = omega (arith, s .leave-range m)
 
--- what is found costs at most 65,535, and where nothing is found leaving machines cost nothing
-abbrev pub Cheap : Climb → Type 0
-Cheap (found u v c) = c ≤ largestCost
-Cheap (passed c) = c ≡ 0
+-- What is found on a way up over k nodes costs at most 65,535 for each of them, leaving included, and so does leaving machines where nothing is
+-- found.
+abbrev pub Cheap : ℕ → Climb → Type 0
+Cheap k (found u v c) = c ≤ k * (costs - 1)
+Cheap k (passed c) = c ≤ k * (costs - 1)
 
-cheap-past : (l : ℕ) → l ≡ 0 → (k : Climb) → Cheap k → Cheap (past l k)
-cheap-past l free (found u v c) cheap = omega arith
-cheap-past l free (passed c) cheap = omega arith
+cheap-past : (l k : ℕ) → l < costs → (up : Climb) → Cheap k up → Cheap (suc k) (past l up)
+cheap-past l k small (found u v c) cheap = omega arith
+cheap-past l k small (passed c) cheap = omega arith
 
-cheap-first : {t : Tree} → Sound t → (n x : ℕ) (o : Option Transition) → counting t n x ≡ o → (k : Climb) → Cheap k → Cheap (firstOf n o k)
-cheap-first s n x none has k cheap = cheap
-cheap-first s n x (some a) has k cheap = counting-cost s n x a has
+cheap-first : {t : Tree} → Sound t → (n x k : ℕ) (o : Option Transition) → counting t n x ≡ o → (up : Climb) → Cheap (suc k) up
+    → Cheap (suc k) (firstOf n o up)
+cheap-first s n x k none has up cheap = cheap
+cheap-first s n x k (some a) has up cheap = omega (arith, counting-cost s n x a has)
 
-cheap-further : (b : Bool) (k : Climb) → Cheap k → Cheap (cond b (passed 0) k)
-cheap-further true k cheap = refl
-cheap-further false k cheap = cheap
+cheap-further : (b : Bool) (k : ℕ) (up : Climb) → Cheap k up → Cheap k (cond b (passed 0) up)
+cheap-further true k up cheap = omega arith
+cheap-further false k up cheap = cheap
 
-look-cheap : {t : Tree} → Sound t → (top x : ℕ) (ns : List ℕ) → Cheap (look t top x ns)
+look-cheap : {t : Tree} → Sound t → (top x : ℕ) (ns : List ℕ) → Cheap (length ns) (look t top x ns)
 unfolding look
-look-cheap s top x [] = refl
+look-cheap s top x [] = omega arith
 look-cheap {t} s top x (n ∷ ns) =
-    cheap-first s n x (counting t n x) refl _
-    (cheap-further (isAt (t .owner n) top) _ (cheap-past (leavingOf t n) (leaving-of t n) (look t top x ns) (look-cheap s top x ns)))
+    cheap-first s n x (length ns) (counting t n x) refl _
+    (cheap-further (isAt (t .owner n) top) (suc (length ns)) _
+    (cheap-past (leavingOf t n) (length ns) (leaving-small s n) (look t top x ns) (look-cheap s top x ns)))
 
--- so it is of every climb
-pub climb-cheap : {t : Tree} → Sound t → (top n x : ℕ) → Cheap (climb t top n x)
-unfolding climb
-climb-cheap {t} s top n x = look-cheap s top x (path t n)
+-- so it is of every climb: a path has at most 8 nodes
+cheap-more : {j k : ℕ} → j ≤ k → (up : Climb) → Cheap j up → Cheap k up
+cheap-more less (found u v c) cheap = omega arith
+cheap-more less (passed c) cheap = omega arith
 
--- a command that finds nothing has left machines at no cost
-pub passed-free : {t : Tree} → Sound t → (top n x : ℕ) {c : ℕ} → climb t top n x ≡ passed c → c ≡ 0
-passed-free s top n x e = subst Cheap e (climb-cheap s top n x)
+short-on : (k : ℕ) (t : Tree) → ((h : ℕ) → length (pathF k t h) ≤ k) → (o : Option ℕ) → length (option [] (λ h. pathF k t h) o) ≤ k
+short-on k t short none = omega arith
+short-on k t short (some h) = short h
+
+path-short : (k : ℕ) (t : Tree) (n : ℕ) → length (pathF k t n) ≤ k
+unfolding pathF
+path-short zero t n = omega arith
+path-short (suc k) t n = omega (arith, short-on k t (path-short k t) (above t n))
+
+-- so no level is lower than 8
+pub level-small : (t : Tree) (n : ℕ) → level t n ≤ levels
+unfolding level path
+level-small t n = path-short levels t n
+
+pub climb-cheap : {t : Tree} → Sound t → (top n x : ℕ) → Cheap levels (climb t top n x)
+unfolding climb path
+climb-cheap {t} s top n x = cheap-more (path-short levels t n) (look t top x (path t n)) (look-cheap s top x (path t n))
+
+-- what leaving machines costs where nothing is found
+pub passed-small : {t : Tree} → Sound t → (top n x : ℕ) {c : ℕ} → climb t top n x ≡ passed c → c ≤ largestStepCost
+passed-small s top n x e = subst (Cheap levels) e (climb-cheap s top n x)
 
 -- the parts of a step: a transition is found, and its target entered
 pub record Stepped (t : Tree) (top s x : ℕ) (a : Arrival) : Type 0 where
@@ -250,13 +271,13 @@ step-state {t} sound top s x e =
     let target = climb-found sound top s x (way .finds) .target-owner in
     enters-state sound (enter-enters sound target (way .enters)) target
 
--- one command costs at most 65,535
-pub step-cost : {t : Tree} → Sound t → (top s x : ℕ) {a : Arrival} → stepIn t top s x ≡ some a → a .cost ≤ largestCost
-step-cost {t} sound top s x e = subst Cheap (step-stepped t top s x e .finds) (climb-cheap sound top s x)
+-- one command costs at most 8 × 65,535
+pub step-cost : {t : Tree} → Sound t → (top s x : ℕ) {a : Arrival} → stepIn t top s x ≡ some a → a .cost ≤ largestStepCost
+step-cost {t} sound top s x e = subst (Cheap levels) (step-stepped t top s x e .finds) (climb-cheap sound top s x)
 
--- a list costs at most 65,535 for each command
+-- a list costs at most that for each command
 pub run-cost : {t : Tree} → Sound t → (top s : ℕ) (xs : List ℕ) {a : Arrival} → runIn t top s xs ≡ some a
-    → a .cost ≤ length xs * largestCost
+    → a .cost ≤ length xs * largestStepCost
 run-cost {t} sound top s [] {a} e =
     let none-spent : 0 ≡ a .cost = ap (λ (b : Arrival). b .cost) (some-same (run-nil (stepIn t top) s) e) in
     omega arith
@@ -375,9 +396,9 @@ pub simple-length : {t : Tree} → Sound t → {top s : ℕ} → StateIn t top s
 simple-length {t} sound {top} {s} i xs e distinct =
     omega (arith, trail-length t top s xs e, distinct-states sound top (trail t top s xs) distinct (run-states sound i xs e .0))
 
--- so it costs at most 65,535 for each state inside top but one
+-- so it costs at most the largest cost of a command for each state inside top but one
 pub simple-cost : {t : Tree} → Sound t → {top s : ℕ} → StateIn t top s → (xs : List ℕ) {a : Arrival} → runIn t top s xs ≡ some a
-    → Distinct (trail t top s xs) → a .cost ≤ (statesIn t top - 1) * largestCost
+    → Distinct (trail t top s xs) → a .cost ≤ (statesIn t top - 1) * largestStepCost
 simple-cost sound {top} {s} i xs e distinct = omega (arith, run-cost sound top s xs e, simple-length sound i xs e distinct)
 
 -- ---- the whole tree
@@ -397,8 +418,8 @@ moves-length {t} sound a b xs c at e distinct =
 
 -- ---- the bounds
 
--- an exit cost is at most the number of states inside the machine less one, times 65,535
-pub exit-bound : {t : Tree} → Sound t → (m x c : ℕ) → ExitCost t m x (some c) → c ≤ (statesIn t m - 1) * largestCost
+-- an exit cost is at most the number of states inside the machine less one, times the largest cost of a command, and leaving the machines below
+pub exit-bound : {t : Tree} → Sound t → (m x c : ℕ) → ExitCost t m x (some c) → c ≤ (statesIn t m - 1) * largestStepCost + largestStepCost
 exit-bound {t} sound m x c least =
     let (xs, e) = least .0 in
     let p = exit-parts t m x xs e in
@@ -408,19 +429,19 @@ exit-bound {t} sound m x c least =
     omega (
       arith,
       least .1 (b .cost + p .left) (ys, parts-exit t m x ys q),
-      passed-free sound m (p .at .node) x (p .climbs),
+      passed-small sound m (p .at .node) x (p .climbs),
       simple-cost sound (start-inside sound m (p .begins)) ys runs distinct,
     )
 
--- the least cost from a state to a state is at most the number of states less one, times 65,535
-pub plan-bound : {t : Tree} → Sound t → (a b c : ℕ) → isState t a ≡ true → LeastCost t a b (some c) → c ≤ (states t - 1) * largestCost
+-- the least cost from a state to a state is at most the number of states less one, times the largest cost of a command
+pub plan-bound : {t : Tree} → Sound t → (a b c : ℕ) → isState t a ≡ true → LeastCost t a b (some c) → c ≤ (states t - 1) * largestStepCost
 plan-bound {t} sound a b c at least =
     let (xs, e) = least .0 in
     let (ys, d, moves, small, distinct) = simple-moves t a b xs c e in
     omega (arith, least .1 d (ys, moves), run-cost sound (t .root) a ys moves, moves-length sound a b ys d at moves distinct)
 
--- both are at most 16,711,425
-pub exit-largest : {t : Tree} → Sound t → (m x c : ℕ) → ExitCost t m x (some c) → c ≤ largestPlanCost
+-- so exit costs are at most 134,215,680, and costs of plans 133,691,400
+pub exit-largest : {t : Tree} → Sound t → (m x c : ℕ) → ExitCost t m x (some c) → c ≤ largestPlanCost + largestStepCost
 exit-largest {t} sound m x c least = omega (arith, exit-bound sound m x c least, statesIn-states t m, states-bound t)
 
 pub plan-largest : {t : Tree} → Sound t → (a b c : ℕ) → isState t a ≡ true → LeastCost t a b (some c) → c ≤ largestPlanCost

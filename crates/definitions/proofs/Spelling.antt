@@ -9,7 +9,7 @@ use lib.ListN.{length}
 use lib.Seq.{drop-append-seam}
 use borrow.Author.Tests.{le-leb}
 use Rattle.definitions.specs.Tree.{Tree}
-use Rattle.definitions.specs.Stream.{Edit, Command, edit, begin, add, refine, arrow, clear, hold, taken, operandLength, decode, readNext}
+use Rattle.definitions.specs.Stream.{Edit, Command, edit, begin, add, refine, arrow, clear, hold, leave, taken, operandLength, decode, readNext}
 use Rattle.definitions.specs.Edit.{refusal, edited}
 use Rattle.definitions.specs.Load.{Outcome, after, load}
 use Rattle.definitions.specs.Write.{pair, arrowBytes}
@@ -56,6 +56,11 @@ spells-clear n x rest = rw (le-leb 3 (length (pair n ++ x ∷ rest)) (omega arit
 pub spells-hold : (n b : ℕ) → Spells (edit (hold n b)) (0x1A ∷ (pair n ++ b ∷ []))
 unfolding readNext operandLength decode
 spells-hold n b rest = rw (le-leb 3 (length (pair n ++ b ∷ rest)) (omega arith), div-add-mod' n 256)
+
+-- leave
+pub spells-leave : (m c : ℕ) → Spells (edit (leave m c)) (0x1B ∷ m ∷ pair c)
+unfolding readNext operandLength decode
+spells-leave m c rest = rw (le-leb 3 (length (m ∷ (pair c ++ rest))) (omega arith), div-add-mod' c 256)
 
 -- what becomes of a stream that is taken whole
 abbrev pub whole : List ℕ → List Command → Tree → Outcome

@@ -53,7 +53,8 @@ opcode-decodes op bytes =
     (either-both Decodes (eqb op 0x16) (decodes _ _)
     (either-both Decodes (eqb op 0x17) (decodes _ _)
     (either-both Decodes (eqb op 0x18) (decodes _ _)
-    (either-both Decodes (eqb op 0x1A) (decodes _ _) (λ j e. absurd (none-some refl e), λ e. refl))))))))))
+    (either-both Decodes (eqb op 0x1A) (decodes _ _)
+    (either-both Decodes (eqb op 0x1B) (decodes _ _) (λ j e. absurd (none-some refl e), λ e. refl)))))))))))
 
 pub known-decodes : (op : ℕ) (bytes : List ℕ) {k : ℕ} → operandLength op ≡ some k → (c : Command) × (decode op bytes ≡ some c)
 known-decodes op bytes {k} = opcode-decodes op bytes .0 k

@@ -11,14 +11,14 @@ use native.Mathlib.Nat.{zero-add, lt-of-not-le, div-add-mod'}
 use native.Mathlib.Decide.{decLe}
 use native.Mathlib.Omega.{arith}
 use lib.Dec.{eqb, ltb}
-use lib.ListN.{length, getD, length-append}
+use lib.ListN.{length, getD, length-append, List·getD-append}
 use lib.Seq.{ext-getD, getD-append-add}
 use borrow.Author.Tests.{ltb-true, ltb-false, lt-ltb, le-ltb, eqb-true, eqb-false, ne-eqb}
 use Rattle.definitions.specs.Limits.{machines, nodes, commands, costs, bookLength, sheetLength, absent, blank}
 use Rattle.definitions.specs.Tree.{Tree, Transition, withRoot, withNodes, withMachines, onHold, Sound}
-use Rattle.definitions.specs.Book.{machineFields, nodeFields, machineBase, nodeBase, holdBase, machineWords, nodeWords, holdWords, encode}
+use Rattle.definitions.specs.Book.{machineFields, nodeFields, machineBase, nodeBase, holdBase, leaveBase, machineWords, nodeWords, holdWords, leaveWords, encode}
 use Rattle.definitions.specs.Book.{word, transitionWord, machineField, nodeField, number, transitionOf, under}
-use Rattle.definitions.specs.Book.{machineWord, nodeWord, holdWord, treeOf, WellFormed}
+use Rattle.definitions.specs.Book.{machineWord, nodeWord, holdWord, leaveWord, treeOf, WellFormed}
 use Rattle.definitions.specs.Sheet.{Rows, machineRowLength, nodeRowLength, nodeRowBase, machineRows, nodeRows, encodeRows}
 use Rattle.definitions.specs.Sheet.{costWord, staleWord, machineRow, nodeRow, costOf, machineRowWord, nodeRowWord, rowsOf}
 use Rattle.definitions.proofs.Lists.{tabulate-length, tabulate-at, table-length, section-at, section-same, no-value}
@@ -26,15 +26,16 @@ use Rattle.definitions.proofs.Options.{none-some}
 
 -- ---- how long the layouts are
 
--- a book has 4,993 words
+-- a book has 5,057 words
 pub encode-length : (t : Tree) → length (encode t) ≡ bookLength
-unfolding encode machineWords nodeWords holdWords
+unfolding encode machineWords nodeWords holdWords leaveWords
 encode-length t =
     ap suc
-    (length-append (machineWords t) (nodeWords t ++ holdWords t)
+    (length-append (machineWords t) (nodeWords t ++ (holdWords t ++ leaveWords t))
     ∙ ap₂ _+_ (table-length machineFields machines (machineField t))
-    (length-append (nodeWords t) (holdWords t)
-    ∙ ap₂ _+_ (table-length nodeFields nodes (nodeField t)) (tabulate-length nodes (t .hold))))
+    (length-append (nodeWords t) (holdWords t ++ leaveWords t)
+    ∙ ap₂ _+_ (table-length nodeFields nodes (nodeField t))
+    (length-append (holdWords t) (leaveWords t) ∙ ap₂ _+_ (tabulate-length nodes (t .hold)) (tabulate-length machines (t .leave)))))
 
 -- a sheet has 2,880 words
 pub encodeRows-length : (r : Rows) → length (encodeRows r) ≡ sheetLength
@@ -53,26 +54,40 @@ root-word t = refl
 -- the words of a machine are its fields
 pub machine-word : (t : Tree) (m k : ℕ) → m < machines → k < machineFields → machineWord (encode t) m k ≡ machineField t m k
 unfolding encode machineWords machineWord
-machine-word t m k hm hk = section-at machineFields machines (machineField t) (t .root ∷ []) (nodeWords t ++ holdWords t) machineBase m k 0 refl hm hk
+machine-word t m k hm hk = section-at machineFields machines (machineField t) (t .root ∷ []) (nodeWords t ++ (holdWords t ++ leaveWords t)) machineBase m k 0 refl hm hk
 
 -- the words of a node are its fields
 pub node-word : (t : Tree) (n k : ℕ) → n < nodes → k < nodeFields → nodeWord (encode t) n k ≡ nodeField t n k
 unfolding encode machineWords nodeWords nodeWord
 node-word t n k hn hk =
-    section-at nodeFields nodes (nodeField t) (t .root ∷ machineWords t) (holdWords t) nodeBase n k 0
+    section-at nodeFields nodes (nodeField t) (t .root ∷ machineWords t) (holdWords t ++ leaveWords t) nodeBase n k 0
     (ap suc (table-length machineFields machines (machineField t))) hn hk
 
--- the last words are the holds
-pub hold-word : (t : Tree) (n : ℕ) → n < nodes → holdWord (encode t) n ≡ t .hold n
-unfolding encode machineWords nodeWords holdWords holdWord
-hold-word t n hn =
+-- what stands behind the nodes' words
+behind-nodes : (t : Tree) (i : ℕ) → getD (encode t) (holdBase + i) 0 ≡ getD (holdWords t ++ leaveWords t) i 0
+unfolding encode machineWords nodeWords
+behind-nodes t i =
     let head : List ℕ = t .root ∷ machineWords t in
-    let at : holdBase + n ≡ length head + (length (nodeWords t) + n) =
+    let at : holdBase + i ≡ length head + (length (nodeWords t) + i) =
     omega (arith, table-length machineFields machines (machineField t), table-length nodeFields nodes (nodeField t)) in
     rw at
-    (getD-append-add head (nodeWords t ++ holdWords t) (length (nodeWords t) + n) 0
-    ∙ getD-append-add (nodeWords t) (holdWords t) n 0
-    ∙ tabulate-at nodes (t .hold) n 0 hn)
+    (getD-append-add head (nodeWords t ++ (holdWords t ++ leaveWords t)) (length (nodeWords t) + i) 0
+    ∙ getD-append-add (nodeWords t) (holdWords t ++ leaveWords t) i 0)
+
+-- the holds
+pub hold-word : (t : Tree) (n : ℕ) → n < nodes → holdWord (encode t) n ≡ t .hold n
+unfolding holdWords holdWord
+hold-word t n hn =
+    behind-nodes t n
+    ∙ List·getD-append (holdWords t) (leaveWords t) 0 n (omega (arith, tabulate-length nodes (t .hold)))
+    ∙ tabulate-at nodes (t .hold) n 0 hn
+
+-- and last the leaving costs
+pub leave-word : (t : Tree) (m : ℕ) → m < machines → leaveWord (encode t) m ≡ t .leave m
+unfolding holdWords leaveWords leaveWord
+leave-word t m hm =
+    let at : leaveBase + m ≡ holdBase + (length (holdWords t) + m) = omega (arith, tabulate-length nodes (t .hold)) in
+    rw at (behind-nodes t (length (holdWords t) + m) ∙ getD-append-add (holdWords t) (leaveWords t) m 0 ∙ tabulate-at machines (t .leave) m 0 hm)
 
 -- the words of a machine's row are what the row says
 pub machine-row-word : (r : Rows) (m k : ℕ) → m < machines → k < machineRowLength → machineRowWord (encodeRows r) m k ≡ machineRow r m k
@@ -90,26 +105,32 @@ node-row-word r n k hn hk =
 
 -- ---- the words fix the list
 
--- a book is fixed by its root word, its machines' words, its nodes' words and its holds
+-- a book is fixed by its root word, its machines' words, its nodes' words, its holds and its leaving costs
 pub book-words : (v w : List ℕ) → length v ≡ bookLength → length w ≡ bookLength → getD v 0 0 ≡ getD w 0 0
     → ((m k : ℕ) → m < machines → k < machineFields → machineWord v m k ≡ machineWord w m k)
     → ((n k : ℕ) → n < nodes → k < nodeFields → nodeWord v n k ≡ nodeWord w n k)
     → ((n : ℕ) → n < nodes → holdWord v n ≡ holdWord w n)
+    → ((m : ℕ) → m < machines → leaveWord v m ≡ leaveWord w m)
     → v ≡ w
-unfolding machineWord nodeWord holdWord
-book-words v w lv lw root machine node hold = ext-getD 0 v w (lv ∙ sym lw) at
+unfolding machineWord nodeWord holdWord leaveWord
+book-words v w lv lw root machine node hold leave = ext-getD 0 v w (lv ∙ sym lw) at
   where
     at : (j : ℕ) → j < length v → getD v j 0 ≡ getD w j 0
     at zero h = root
     at (suc j) h =
-        elim (decLe holdBase (suc j)) [
-          | yes behind ↦
-              let here : holdBase + (suc j - holdBase) ≡ suc j = omega arith in
-              rw here at (hold (suc j - holdBase) (omega arith))
-          | no inside ↦ elim (decLe nodeBase (suc j)) [
-            | yes past ↦ section-same nodeFields nodes nodeBase v w 0 node (suc j) past (omega (arith, lt-of-not-le inside))
-            | no before ↦
-                section-same machineFields machines machineBase v w 0 machine (suc j) (omega arith) (omega (arith, lt-of-not-le before))
+        elim (decLe leaveBase (suc j)) [
+          | yes last ↦
+              let here : leaveBase + (suc j - leaveBase) ≡ suc j = omega arith in
+              rw here at (leave (suc j - leaveBase) (omega arith))
+          | no earlier ↦ elim (decLe holdBase (suc j)) [
+            | yes behind ↦
+                let here : holdBase + (suc j - holdBase) ≡ suc j = omega arith in
+                rw here at (hold (suc j - holdBase) (omega (arith, lt-of-not-le earlier)))
+            | no inside ↦ elim (decLe nodeBase (suc j)) [
+              | yes past ↦ section-same nodeFields nodes nodeBase v w 0 node (suc j) past (omega (arith, lt-of-not-le inside))
+              | no before ↦
+                  section-same machineFields machines machineBase v w 0 machine (suc j) (omega arith) (omega (arith, lt-of-not-le before))
+            ]
           ]
         ]
 
@@ -138,12 +159,14 @@ pub encode-is : (ws : List ℕ) (t : Tree) → length ws ≡ bookLength → getD
     → ((m k : ℕ) → m < machines → k < machineFields → machineWord ws m k ≡ machineField t m k)
     → ((n k : ℕ) → n < nodes → k < nodeFields → nodeWord ws n k ≡ nodeField t n k)
     → ((n : ℕ) → n < nodes → holdWord ws n ≡ t .hold n)
+    → ((m : ℕ) → m < machines → leaveWord ws m ≡ t .leave m)
     → ws ≡ encode t
-encode-is ws t l root machine node hold =
+encode-is ws t l root machine node hold leave =
     book-words ws (encode t) l (encode-length t) (root ∙ sym (root-word t))
     (λ m k hm hk. machine m k hm hk ∙ sym (machine-word t m k hm hk))
     (λ n k hn hk. node n k hn hk ∙ sym (node-word t n k hn hk))
     (λ n hn. hold n hn ∙ sym (hold-word t n hn))
+    (λ m hm. leave m hm ∙ sym (leave-word t m hm))
 
 -- and a list that has the length of rows and each of their words is theirs
 pub encodeRows-is : (ws : List ℕ) (r : Rows) → length ws ≡ sheetLength
@@ -293,12 +316,12 @@ mark-is limit i w b same inside = go (ltb i limit) b refl same inside
 -- two trees with the same root and the same fields at every number are one tree
 pub same-tree : (t u : Tree) → t .root ≡ u .root → ((n : ℕ) → t .owner n ≡ u .owner n) → ((n : ℕ) → t .below n ≡ u .below n)
     → ((m : ℕ) → t .start m ≡ u .start m) → ((m : ℕ) → t .holder m ≡ u .holder m)
-    → ((n x : ℕ) → t .transition n x ≡ u .transition n x) → ((n : ℕ) → t .hold n ≡ u .hold n) → t ≡ u
-same-tree t u root owner below start holder transition hold =
+    → ((n x : ℕ) → t .transition n x ≡ u .transition n x) → ((n : ℕ) → t .hold n ≡ u .hold n) → ((m : ℕ) → t .leave m ≡ u .leave m) → t ≡ u
+same-tree t u root owner below start holder transition hold leave =
     λ i.
     withRoot
     (withMachines (withNodes t (λ n. owner n i) (λ n. below n i) (λ n x. transition n x i) (λ n. hold n i)) (λ m. start m i)
-    (λ m. holder m i))
+    (λ m. holder m i) (λ m. leave m i))
     (root i)
 
 -- two trees that differ at most in what they say of nodes, and say the same of every node, are one tree
@@ -309,9 +332,9 @@ same-nodes t u rest owner below transition hold =
     (λ i. withNodes t (λ n. owner n i) (λ n. below n i) (λ n x. transition n x i) (λ n. hold n i)) ∙ rest
 
 -- and so are two that differ at most in what they say of machines
-pub same-machines : (t u : Tree) → withMachines t (u .start) (u .holder) ≡ u → ((m : ℕ) → t .start m ≡ u .start m)
-    → ((m : ℕ) → t .holder m ≡ u .holder m) → t ≡ u
-same-machines t u rest start holder = (λ i. withMachines t (λ m. start m i) (λ m. holder m i)) ∙ rest
+pub same-machines : (t u : Tree) → withMachines t (u .start) (u .holder) (u .leave) ≡ u → ((m : ℕ) → t .start m ≡ u .start m)
+    → ((m : ℕ) → t .holder m ≡ u .holder m) → ((m : ℕ) → t .leave m ≡ u .leave m) → t ≡ u
+same-machines t u rest start holder leave = (λ i. withMachines t (λ m. start m i) (λ m. holder m i) (λ m. leave m i)) ∙ rest
 
 -- two rows with the same fields at every number are the same
 pub same-rows : (r q : Rows) → ((m : ℕ) → r .stale m ≡ q .stale m) → ((m x : ℕ) → r .exit m x ≡ q .exit m x)
@@ -431,7 +454,7 @@ treeOf-encode t s =
     (λ m.
     number-is machines m (machineWord (encode t) m 0) (t .holder m) (λ h. machine-word t m 0 h (omega arith))
     (λ n e. omega (arith, holder-range t s m n e)))
-    transition hold
+    transition hold leave
   where
     hold : (n : ℕ) → cond (ltb n nodes) (holdWord (encode t) n) 0 ≡ t .hold n
     hold n = go (ltb n nodes) refl
@@ -439,6 +462,13 @@ treeOf-encode t s =
         go : (b : Bool) → ltb n nodes ≡ b → cond b (holdWord (encode t) n) 0 ≡ t .hold n
         go true e = hold-word t n (ltb-true n nodes e)
         go false e = sym (unused-hold t s n (no-value (t .owner n) (λ m own. omega (arith, s .node-range n m own, ltb-false n nodes e))))
+
+    leave : (m : ℕ) → cond (ltb m machines) (leaveWord (encode t) m) 0 ≡ t .leave m
+    leave m = go (ltb m machines) refl
+      where
+        go : (b : Bool) → ltb m machines ≡ b → cond b (leaveWord (encode t) m) 0 ≡ t .leave m
+        go true e = leave-word t m (ltb-true m machines e)
+        go false e = sym (s .leave-used m (no-value (t .start m) (λ n st. omega (arith, s .machine-range m n st, ltb-false m machines e))))
 
     transition : (n x : ℕ) → under nodes n (under commands x (transitionOf (nodeWord (encode t) n (2 + x)))) ≡ t .transition n x
     transition n x =
@@ -484,13 +514,18 @@ pub treeOf-hold : (ws : List ℕ) (n : ℕ) → n < nodes → treeOf ws .hold n 
 unfolding treeOf
 treeOf-hold ws n hn = rw (lt-ltb n nodes hn)
 
--- any list of 4,993 words is the encoding of the tree that it holds
+-- and for every leaving cost
+pub treeOf-leave : (ws : List ℕ) (m : ℕ) → m < machines → treeOf ws .leave m ≡ leaveWord ws m
+unfolding treeOf
+treeOf-leave ws m hm = rw (lt-ltb m machines hm)
+
+-- any list of 5,057 words is the encoding of the tree that it holds
 pub encode-treeOf : (ws : List ℕ) → length ws ≡ bookLength → encode (treeOf ws) ≡ ws
 unfolding treeOf
 encode-treeOf ws l =
     sym
     (encode-is ws (treeOf ws) l refl (λ m k hm hk. sym (treeOf-machine ws m k hm hk)) (λ n k hn hk. sym (treeOf-node ws n k hn hk))
-    (λ n hn. sym (treeOf-hold ws n hn)))
+    (λ n hn. sym (treeOf-hold ws n hn)) (λ m hm. sym (treeOf-leave ws m hm)))
 
 -- a well-formed book is the encoding of its tree
 pub well-formed-words : (ws : List ℕ) → WellFormed ws → encode (treeOf ws) ≡ ws

@@ -1,5 +1,5 @@
--- Document 01, "Book and sheet in memory", with document 02's holds (W-205): the 4,993 words of a book, section by section, and when a book
--- is well formed.
+-- Document 01, "Book and sheet in memory", with document 02's holds (W-205) and leaving charges (W-207): the 5,057 words of a book, section by
+-- section, and when a book is well formed.
 use mathlib.Core.Path.{_≡_}
 use mathlib.Core.Bool.{cond}
 use mathlib.Core.Option.{Option, none, some}
@@ -38,7 +38,7 @@ machineFields = 2
 abbrev pub nodeFields : ℕ
 nodeFields = 18
 
--- where the machines' words, the nodes' words and the holds begin
+-- where the machines' words, the nodes' words, the holds and the leaving charges begin
 abbrev pub machineBase : ℕ
 machineBase = 1
 
@@ -48,7 +48,10 @@ nodeBase = 129
 abbrev pub holdBase : ℕ
 holdBase = 4737
 
--- the sections of a book: the root, the machines, the nodes, and at its end the holds (document 02, W-205)
+abbrev pub leaveBase : ℕ
+leaveBase = 4993
+
+-- the sections of a book: the root, the machines, the nodes, the holds (document 02, W-205), and at its end the leaving charges (W-207)
 unfoldable pub machineWords : Tree → List ℕ
 machineWords t = tabulate (machines * machineFields) (λ i. machineField t (i / machineFields) (i % machineFields))
 
@@ -58,9 +61,12 @@ nodeWords t = tabulate (nodes * nodeFields) (λ i. nodeField t (i / nodeFields) 
 unfoldable pub holdWords : Tree → List ℕ
 holdWords t = tabulate nodes (t .hold)
 
+unfoldable pub leaveWords : Tree → List ℕ
+leaveWords t = tabulate machines (t .leave)
+
 -- the words of a tree (document 01: the book)
 unfoldable pub encode : Tree → List ℕ
-encode t = t .root ∷ (machineWords t ++ (nodeWords t ++ holdWords t))
+encode t = t .root ∷ (machineWords t ++ (nodeWords t ++ (holdWords t ++ leaveWords t)))
 
 -- what a word says: a number, a transition, or that it is absent
 unfoldable pub number : ℕ → Option ℕ
@@ -84,6 +90,10 @@ nodeWord ws n k = getD ws (nodeBase + n * nodeFields + k) 0
 unfoldable pub holdWord : List ℕ → ℕ → ℕ
 holdWord ws n = getD ws (holdBase + n) 0
 
+-- what leaving machine m costs
+unfoldable pub leaveWord : List ℕ → ℕ → ℕ
+leaveWord ws m = getD ws (leaveBase + m) 0
+
 -- the tree that a book's words hold
 unfoldable pub treeOf : List ℕ → Tree
 treeOf ws =
@@ -95,10 +105,11 @@ treeOf ws =
       holder = λ m. under machines m (number (machineWord ws m 0));
       transition = λ n x. under nodes n (under commands x (transitionOf (nodeWord ws n (2 + x))));
       hold = λ n. cond (ltb n nodes) (holdWord ws n) 0;
+      leave = λ m. cond (ltb m machines) (leaveWord ws m) 0;
     }
 
--- a book is well formed: it has as many words as a book has, and its tree is sound (so unused records are empty, and no start node is
--- held: document 02, W-205)
+-- a book is well formed: it has as many words as a book has, and its tree is sound (so unused records are empty, no start node is
+-- held, and leaving the root costs 0: document 02, W-205, W-207)
 pub record WellFormed (ws : List ℕ) : Type 0 where
   pub length : length ws ≡ bookLength
   pub sound : Sound (treeOf ws)

@@ -5,12 +5,12 @@ use mathlib.Core.Logic.{_⊎_}
 use mathlib.Core.Bool.{true, false}
 use mathlib.Core.Option.{none, some}
 use mathlib.Core.List.{List, [], _∷_, _++_}
-use Prim.Native.Nat.{ℕ, _-_, _<_}
+use Prim.Native.Nat.{ℕ, _+_, _-_, _<_}
 use lib.ListN.{length, drop}
 use Rattle.definitions.specs.Basics.{Distinct}
 use Rattle.definitions.specs.Limits.{machines, nodes, commands, bookLength, sheetLength}
 use Rattle.definitions.specs.Tree.{Tree, UsedNode, path, states}
-use Rattle.definitions.specs.Step.{enter, Arrival, step, acting, Lowest, Moves, passes}
+use Rattle.definitions.specs.Step.{enter, leavingAll, Arrival, step, acting, Lowest, Moves, passes}
 use Rattle.definitions.specs.Costs.{LeastCost, ExitCost}
 use Rattle.definitions.specs.Book.{encode, treeOf, WellFormed}
 use Rattle.definitions.specs.Sheet.{Rows, rowsOf, encodeRows}
@@ -93,9 +93,9 @@ StepSays book s x answer =
 pub record Acts (t : Tree) (s x n : ℕ) (a : Arrival) : Type 0 where
   -- it is the state or holds it, has a transition for x that counts, and no node below it on the way up has one
   pub lowest : Lowest t x (path t s) n
-  -- the target, entered, is the state of a, and the cost is that of a
+  -- the target, entered, is the state of a; the cost of a is the transition's plus that of leaving each machine climbed past (document 02, W-207)
   pub enters : enter t (lowest .transition .target) ≡ some (a .node)
-  pub costs : lowest .transition .cost ≡ a .cost
+  pub costs : leavingAll t (lowest .lower) + lowest .transition .cost ≡ a .cost
 
 -- the claim of W-202: the node that Step gives acts, for every book, state and command
 abbrev pub StepActs : Type 0

@@ -1,5 +1,5 @@
--- Document 01: the least cost from a state to a state, and the exit charge of a machine. Both are over the transitions that no hold shuts, since the
--- step and the climb are (document 02, W-205).
+-- Document 01: the least cost from a state to a state, and the exit charge of a machine. Both are over the transitions that no hold shuts, with
+-- what leaving machines costs, since the step and the climb are (document 02, W-205, W-207).
 use mathlib.Core.Path.{_≡_}
 use mathlib.Core.Option.{Option, none, some}
 use mathlib.Core.List.{List}
@@ -17,8 +17,8 @@ abbrev pub unfound : ℕ → Climb → Option ℕ
 unfound c (found n v d) = none
 unfound c (passed d) = some (c + d)
 
--- the cost, the last command not counted, of the list xs and then x from m's start state: the commands of xs all use
--- transitions in m or below it, and x finds none there; none where the list is not so
+-- The cost of the list xs and then x from m's start state: the commands of xs all use transitions in m or below it, and x finds none there; none
+-- where the list is not so. Of x it has what leaving the machines below m costs, but neither its transition nor leaving m (document 02, W-207).
 unfoldable pub exitBy : Tree → ℕ → ℕ → List ℕ → Option ℕ
 exitBy t m x xs = startState t m >>= λ s. runIn t m s xs >>= λ a. unfound (a .cost) (climb t m (a .node) x)
 

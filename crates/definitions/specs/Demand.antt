@@ -1,5 +1,5 @@
--- The customer's demands 2 (its last clause) and 3, each as one statement; and the bounds on what Plan and Write give (document 01; Write's is
--- document 02's, W-205).
+-- The customer's demands 2 (its last clause) and 3, each as one statement; and the bounds on what Plan and Write give (document 02,
+-- W-207, in place of document 01's).
 use mathlib.Core.Path.{_≡_}
 use mathlib.Core.Logic.{_⊎_}
 use mathlib.Core.Bool.{true}
@@ -76,12 +76,12 @@ SameBook =
     → WellFormed other → TrueSheet (treeOf other) sheet → LoadSays other sheet (take size out′) answer book′ sheet′
     → (answer .bytes ≡ size) × (answer .number ≡ 0) × (book′ ≡ book) × (sheet′ ≡ encodeRows (openRows (treeOf book)))
 
--- a plan has at most the number of states less 1 commands and costs at most 255 × 65,535
+-- a plan has at most the number of states less 1 commands and costs at most 255 × 8 × 65,535 = 133,691,400 (document 02, W-207)
 abbrev pub PlanBounds : Type 0
 PlanBounds =
     (t : Tree) → Sound t → (a b cost : ℕ) (list : List ℕ) → isState t a ≡ true → Plan t a b cost list
     → (length list ≤ states t - 1) × (cost ≤ largestPlanCost)
 
--- Write's stream has at most 34,812 bytes (document 02, W-205, in place of document 01's number)
+-- Write's stream has at most 34,938 bytes (document 02, W-207)
 abbrev pub WriteBound : Type 0
 WriteBound = (t : Tree) → Sound t → length (written t) ≤ longestStream

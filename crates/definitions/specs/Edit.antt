@@ -1,5 +1,5 @@
--- Document 01, "Loading a stream", with document 02's holds (W-205): the refusals 6 to 12 and 21 of each command, what it does to the tree,
--- and which rows it marks and blanks. The same definitions make Load's promise and the expected station of demand 3.
+-- Document 01, "Loading a stream", with document 02's holds (W-205) and leaving charges (W-207): the refusals 6 to 12 and 21 of each command, what it
+-- does to the tree, and which rows it marks and blanks. The same definitions make Load's promise and the expected station of demand 3.
 use mathlib.Core.Path.{_≡_}
 use mathlib.Core.Bool.{Bool, true, false, cond, not, _&&_, _||_}
 use mathlib.Core.Option.{Option, none, some}
@@ -8,11 +8,11 @@ use Prim.Native.Nat.{ℕ}
 use lib.Dec.{eqb, ltb}
 use Rattle.definitions.specs.Basics.{option, unless, isSome, isAt, put, anyBelow}
 use Rattle.definitions.specs.Limits.{machines, nodes, commands, levels}
-use Rattle.definitions.specs.Tree.{Tree, Transition, withRoot, withOwner, withBelow, withTransitions, withNodeHold, withStartOf, withHolder}
+use Rattle.definitions.specs.Tree.{Tree, Transition, withRoot, withOwner, withBelow, withTransitions, withNodeHold, withStartOf, withHolder, withLeave}
 use Rattle.definitions.specs.Tree.{usedMachine, usedNode, onHold, level, within, over, unlessInto, Sound}
 use Rattle.definitions.specs.Sheet.{Rows}
 use Rattle.definitions.specs.Truth.{TrueRows}
-use Rattle.definitions.specs.Stream.{Edit, begin, add, refine, remove, arrow, clear, start, crown, hold, Command, edit, refresh}
+use Rattle.definitions.specs.Stream.{Edit, begin, add, refine, remove, arrow, clear, start, crown, hold, leave, Command, edit, refresh}
 
 infix 5 _when_
 -- a number that a command is refused with, and the test for it
@@ -55,7 +55,7 @@ anyLowest t = anyBelow nodes (lowest t)
 
 -- the refusals of each command in their order: 6 (number out of range), 7 (machine or node not in use), 8 (new number in use),
 -- 9 (already refined), 10 (a start node), 11 (target in another machine), 12 (over 8 levels); 21 (document 02, W-205: a hold of 1 on a start
--- node, or a held node made a start), after 7. A hold is 1 or 0; another byte is 6
+-- node, or a held node made a start), after 7. A hold is 1 or 0; another byte is 6, and so is a leaving charge for the root (W-207)
 unfoldable pub refusals : Tree → Edit → List Test
 refusals t (begin m n) = (6 when (badMachine m || badNode n)) ∷ []
 refusals t (add m n) =
@@ -72,13 +72,14 @@ refusals t (crown m n) =
     (6 when (badMachine m || badNode n)) ∷ (8 when (usedMachine t m || usedNode t n)) ∷ (12 when anyLowest t) ∷ []
 refusals t (hold n b) =
     (6 when (badNode n || badHold b)) ∷ (7 when not (usedNode t n)) ∷ (21 when (eqb b 1 && isStart t n)) ∷ []
+refusals t (leave m c) = (6 when (badMachine m || eqb m (t .root))) ∷ (7 when not (usedMachine t m)) ∷ []
 
 -- the number that a command is refused with; 0 where it is taken
 unfoldable pub refusal : Tree → Command → ℕ
 refusal t (edit e) = firstHolding (refusals t e)
 refusal t refresh = 0
 
--- one machine, as root, with one node, its start; nothing is held (document 02, W-205)
+-- one machine, as root, with one node, its start; nothing is held, and leaving costs nothing (document 02, W-205, W-207)
 unfoldable pub single : ℕ → ℕ → Tree
 single m n =
     record {
@@ -89,13 +90,14 @@ single m n =
       holder = λ k. none;
       transition = λ k x. none;
       hold = λ k. 0;
+      leave = λ k. 0;
     }
 
 -- whether a machine is held by node n or by a node below it
 abbrev pub heldWithin : Tree → ℕ → ℕ → Bool
 heldWithin t n m = option false (within t n) (t .holder m)
 
--- the tree without node n, all below it, their holds (document 02, W-205), and the transitions into it
+-- the tree without node n, all below it, their holds and leaving charges (document 02, W-205, W-207), and the transitions into it
 unfoldable pub without : Tree → ℕ → Tree
 without t n =
     record {
@@ -106,6 +108,7 @@ without t n =
       holder = λ m. unless (heldWithin t n m) (t .holder m);
       transition = λ k x. unless (within t n k) (unlessInto (λ v. eqb v n) (t .transition k x));
       hold = λ k. cond (within t n k) 0 (t .hold k);
+      leave = λ m. cond (heldWithin t n m) 0 (t .leave m);
     }
 
 -- the tree with o as the transition of node n for x
@@ -124,9 +127,10 @@ withMachine t m n = withStartOf (withOwner t n (some m)) m (some n)
 abbrev pub withHeld : Tree → ℕ → ℕ → Tree
 withHeld t n m = withHolder (withBelow t n (some m)) m (some n)
 
--- The tree after an edit that is taken. A number that is not in use has no machine below it, no transitions, no hold and no nodes (Sound),
--- so a new node has no transitions and no hold and, but for crown's, is plain, and a new machine has only its start node. A refined node
--- keeps its transitions and its hold. 0x1A sets the hold (document 02, W-205).
+-- The tree after an edit that is taken. A number that is not in use has no machine below it, no transitions, no hold, no nodes, and leaving it costs 0
+-- (Sound). So a new node has no transitions and no hold and, but for crown's, is plain, and a new machine has only its start node, and leaving it
+-- costs 0, as leaving the root does: crown leaves the old root's charge 0. A refined node keeps its transitions and its hold. 0x1A sets the hold,
+-- 0x1B the leaving charge (document 02, W-205, W-207).
 unfoldable pub edited : Tree → Edit → Tree
 edited t (begin m n) = single m n
 edited t (add m n) = withOwner t n (some m)
@@ -137,6 +141,7 @@ edited t (clear n x) = withTransition t n x none
 edited t (start n) = withStart t n
 edited t (crown m n) = withRoot (withHeld (withMachine t m n) n (t .root)) m
 edited t (hold n b) = withNodeHold t n b
+edited t (leave m c) = withLeave t m c
 
 -- the tree after a command that is taken; a refresh changes nothing
 abbrev pub treeAfter : Tree → Command → Tree
@@ -151,7 +156,7 @@ HoldReleased =
     → (refusal (edited t (hold n 1)) (edit (hold n 0)) ≡ 0) × (edited (edited t (hold n 1)) (hold n 0) ≡ t)
 
 -- whether an edit marks machine p: new machines, the machine edited and all above it; crown marks only the new root; a hold marks as a
--- transition's edit does (document 02, W-205)
+-- transition's edit does, a leaving charge as any edit of its machine (document 02, W-205, W-207)
 unfoldable pub touches : Tree → Edit → ℕ → Bool
 touches t (begin m n) p = eqb p m
 touches t (add m n) p = option false (over t p) (t .start m)
@@ -162,6 +167,7 @@ touches t (clear n x) p = over t p n
 touches t (start n) p = over t p n
 touches t (crown m n) p = eqb p m
 touches t (hold n b) p = over t p n
+touches t (leave m c) p = option false (over t p) (t .start m)
 
 -- the rows where the machines in use that pass the test are marked and blanked, and unused machines and nodes are blank, mark 0
 unfoldable pub withStale : Tree → (ℕ → Bool) → Rows → Rows

@@ -1,6 +1,6 @@
--- The limits and sizes of document 01, each named once; the words of a book and the longest stream are document 02's (W-205), and so is the most
--- walkers (W-206).
-use Prim.Native.Nat.{ℕ, _*_}
+-- The limits and sizes of document 01, each named once; the words of a book, the largest costs and the longest stream are document 02's (W-205,
+-- W-207), and so is the most walkers (W-206).
+use Prim.Native.Nat.{ℕ, _*_, _-_}
 
 -- how many machines, nodes and commands there are: each is a number under its limit
 abbrev pub machines : ℕ
@@ -12,7 +12,7 @@ nodes = 256
 abbrev pub commands : ℕ
 commands = 16
 
--- costs of transitions are under this
+-- costs of transitions, and of leaving a machine, are under this
 abbrev pub costs : ℕ
 costs = 65536
 
@@ -22,7 +22,7 @@ levels = 8
 
 -- the words of a book and of a sheet
 abbrev pub bookLength : ℕ
-bookLength = 4993
+bookLength = 5057
 
 abbrev pub sheetLength : ℕ
 sheetLength = 2880
@@ -39,16 +39,16 @@ blank = 4294967295
 abbrev pub longestChain : ℕ
 longestChain = 255
 
--- the largest cost of one command, and of a plan
-abbrev pub largestCost : ℕ
-largestCost = 65535
+-- the largest cost of a step (document 02, W-207: a transition, and leaving at most 7 machines), and of a plan
+abbrev pub largestStepCost : ℕ
+largestStepCost = levels * (costs - 1)
 
 abbrev pub largestPlanCost : ℕ
-largestPlanCost = 255 * largestCost
+largestPlanCost = 255 * largestStepCost
 
 -- the longest stream that Write gives
 abbrev pub longestStream : ℕ
-longestStream = 34812
+longestStream = 34938
 
 -- how many commands of a lent list Choose looks at, and how many bytes of its input the session reads
 abbrev pub longestList : ℕ

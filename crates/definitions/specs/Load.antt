@@ -54,8 +54,8 @@ abbrev pub RowsAfterAll : Tree → List Command → Rows → Rows → Type 0
 RowsAfterAll t [] r last = last ≡ r
 RowsAfterAll t (c ∷ cs) r last = (mid : Rows) × RowsAfter t c r mid × RowsAfterAll (treeAfter t c) cs mid last
 
--- the tree after streams (document 01: the expected station; document 02, W-205: it takes 0x1A and refuses 21 by the same rules), worked out from
--- the opening's tree and the streams alone
+-- the tree after streams (document 01: the expected station; document 02, W-205, W-207: it takes 0x1A and 0x1B and refuses 21, and 6 for the
+-- root, by the same rules), worked out from the opening's tree and the streams alone
 unfoldable pub expected : Tree → List (List ℕ) → Tree
 expected t [] = t
 expected t (bytes ∷ rest) = expected (load t bytes .tree) rest

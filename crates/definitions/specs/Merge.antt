@@ -67,7 +67,8 @@ nodeMoves t u = rising nodes (usedNode u) (unusedNode t)
 abbrev pub movedTransition : (ℕ → Option ℕ) → Transition → Option Transition
 movedTransition to a = to (a .target) >>= λ v. some (record { target = v; cost = a .cost })
 
--- the tree at other numbers, its root at number r; a hold goes with its node (document 02, W-205)
+-- the tree at other numbers, its root at number r; a hold goes with its node, a leaving charge with its machine (document
+-- 02, W-205, W-207)
 unfoldable pub renumbered : Renumbering → Renumbering → ℕ → Tree → Tree
 renumbered ms ns r t =
     record {
@@ -78,16 +79,17 @@ renumbered ms ns r t =
       holder = λ m. ms .from m >>= t .holder >>= ns .to;
       transition = λ n x. ns .from n >>= λ k. t .transition k x >>= movedTransition (ns .to);
       hold = λ n. option 0 (t .hold) (ns .from n);
+      leave = λ m. option 0 (t .leave) (ms .from m);
     }
 
--- the tree, and in each field where it has nothing what another tree has there; its own root stays. Holds are added: the two use no number
--- in common, so one of the two is 0 (document 02, W-205: a merge carries holds along)
+-- the tree, and in each field where it has nothing what another tree has there; its own root stays. Holds and leaving
+-- charges are added: the two use no number in common, so one of the two is 0 (document 02, W-205, W-207: a merge carries them along)
 unfoldable pub beside : Tree → Tree → Tree
 beside t u =
     withMachines
     (withNodes t (λ n. orElse (t .owner n) (u .owner n)) (λ n. orElse (t .below n) (u .below n))
     (λ n x. orElse (t .transition n x) (u .transition n x)) (λ n. t .hold n + u .hold n))
-    (λ m. orElse (t .start m) (u .start m)) (λ m. orElse (t .holder m) (u .holder m))
+    (λ m. orElse (t .start m) (u .start m)) (λ m. orElse (t .holder m) (u .holder m)) (λ m. t .leave m + u .leave m)
 
 -- the first tree below node a of the new root r, a its start, and the second, whose root moved to s, below r's other node b
 unfoldable pub underNewRoot : Tree → Tree → (r a b s : ℕ) → Tree

@@ -1,5 +1,5 @@
 -- Document 01, "Opening": the trees of Open fresh and Open ladder, the tree that a table of rows says, and the sheet of an opening. No node is
--- held (document 02, W-205).
+-- held, and leaving costs nothing (document 02, W-205, W-207).
 use mathlib.Core.Bool.{Bool, not, cond, _&&_}
 use mathlib.Core.Option.{Option, none, some}
 use mathlib.Core.List.{List}
@@ -58,6 +58,7 @@ ladderTree =
       holder = λ m. ladderHolder m;
       transition = λ n x. ladderTransition n x;
       hold = λ n. 0;
+      leave = λ m. 0;
     }
 
 -- ---- The tree of a table of rows, as the ladder's is one (document 02, W-208: holders follow from the rows, the machine that no row holds
@@ -117,6 +118,7 @@ grown rows k r =
       holder = λ m. under machines m (lastUnder k (λ n. isAt (rowBelow rows n) m));
       transition = λ n x. linked rows k n x;
       hold = λ n. 0;
+      leave = λ m. 0;
     }
 
 -- whether a machine in use is held by no node

@@ -1,6 +1,6 @@
 -- Document 01, "The tree and its step": entering a node, the step and its cost, and what a list of commands does.
 -- (Definition 3 of sources 000 and 001, as document 01 fixes it.) Also the node that acts (document 02, W-202), and all of it past the
--- transitions that a hold shuts (W-205).
+-- transitions that a hold shuts (W-205), with what leaving machines costs (W-207).
 use mathlib.Core.Path.{_≡_}
 use mathlib.Core.Bool.{cond}
 use mathlib.Core.Option.{Option, none, some}
@@ -27,13 +27,14 @@ startState t m = t .start m >>= λ s. enter t s
 unfoldable pub counting : Tree → ℕ → ℕ → Option Transition
 counting t n x = unlessInto (onHold t) (t .transition n x)
 
--- what leaving a machine costs (document 01: Leaving a machine costs nothing)
-unfoldable pub leaving : Tree → ℕ → ℕ
-leaving t m = 0
-
--- what leaving a node's machine costs
+-- what leaving a node's machine costs (document 02, W-207; it replaces document 01's "Leaving a machine costs nothing")
 abbrev pub leavingOf : Tree → ℕ → ℕ
-leavingOf t n = option 0 (leaving t) (t .owner n)
+leavingOf t n = option 0 (t .leave) (t .owner n)
+
+-- what leaving the machines of these nodes costs
+abbrev pub leavingAll : Tree → List ℕ → ℕ
+leavingAll t [] = 0
+leavingAll t (n ∷ ns) = leavingOf t n + leavingAll t ns
 
 -- Where a command finds a transition: at this node, with this target, at this cost, leaving included. Or it finds none up to machine
 -- top, and leaving the machines below top cost this.

@@ -1,4 +1,5 @@
--- Document 01, "Loading a stream": opcodes, operands, and the reading of a stream's next command. Opcode 0x1A is document 02's (W-205).
+-- Document 01, "Loading a stream": opcodes, operands, and the reading of a stream's next command. Opcodes 0x1A and 0x1B are document
+-- 02's (W-205, W-207).
 use mathlib.Core.Bool.{cond}
 use mathlib.Core.Option.{Option, none, some}
 use mathlib.Core.List.{List, [], _∷_}
@@ -18,8 +19,9 @@ pub data Edit : Type 0 where
   start : (node : ℕ) → Edit
   crown : (machine node : ℕ) → Edit
   hold : (node byte : ℕ) → Edit
+  leave : (machine cost : ℕ) → Edit
 
--- the ten commands of a stream
+-- the eleven commands of a stream
 pub data Command : Type 0 where
   edit : Edit → Command
   refresh : Command
@@ -36,7 +38,8 @@ operandLength op =
     (cond (eqb op 0x16) (some 2)
     (cond (eqb op 0x17) (some 3)
     (cond (eqb op 0x18) (some 0)
-    (cond (eqb op 0x1A) (some 3) none)))))))))
+    (cond (eqb op 0x1A) (some 3)
+    (cond (eqb op 0x1B) (some 3) none))))))))))
 
 -- the byte at a place, and the two bytes from a place, high byte first
 abbrev pub byteAt : List ℕ → ℕ → ℕ
@@ -57,7 +60,8 @@ decode op bytes =
     (cond (eqb op 0x16) (some (edit (start (pairAt bytes 0))))
     (cond (eqb op 0x17) (some (edit (crown (byteAt bytes 0) (pairAt bytes 1))))
     (cond (eqb op 0x18) (some refresh)
-    (cond (eqb op 0x1A) (some (edit (hold (pairAt bytes 0) (byteAt bytes 2)))) none)))))))))
+    (cond (eqb op 0x1A) (some (edit (hold (pairAt bytes 0) (byteAt bytes 2))))
+    (cond (eqb op 0x1B) (some (edit (leave (byteAt bytes 0) (pairAt bytes 1)))) none))))))))))
 
 -- what stands next in a stream: nothing, a command and how many bytes it takes, or a refusal
 pub data Next : Type 0 where

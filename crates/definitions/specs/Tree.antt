@@ -1,5 +1,5 @@
--- Document 01, "The tree and its step", with document 02's holds (W-205): the tree of machines, and when it is one. No word of memory stands
--- here.
+-- Document 01, "The tree and its step", with document 02's holds (W-205) and leaving charges (W-207): the tree of machines, and when it is one. No
+-- word of memory stands here.
 use mathlib.Core.Path.{_≡_}
 use mathlib.Core.Bool.{Bool, not, _&&_}
 use mathlib.Core.Option.{Option, none, some}
@@ -31,21 +31,23 @@ pub record Tree : Type 0 where
   pub transition : ℕ → ℕ → Option Transition
   -- 1 for a node that is held, 0 for every other (document 02, W-205: a hold)
   pub hold : ℕ → ℕ
+  -- what leaving a machine costs (document 02, W-207: its leaving charge)
+  pub leave : ℕ → ℕ
 
 -- the tree with m as its root
 abbrev pub withRoot : Tree → ℕ → Tree
 withRoot t m =
-    record { root = m; owner = t .owner; below = t .below; start = t .start; holder = t .holder; transition = t .transition; hold = t .hold }
+    record { root = m; owner = t .owner; below = t .below; start = t .start; holder = t .holder; transition = t .transition; hold = t .hold; leave = t .leave }
 
 -- the tree with other fields of its nodes
 abbrev pub withNodes : Tree → (owner below : ℕ → Option ℕ) → (transition : ℕ → ℕ → Option Transition) → (hold : ℕ → ℕ) → Tree
 withNodes t owner below transition hold =
-    record { root = t .root; owner = owner; below = below; start = t .start; holder = t .holder; transition = transition; hold = hold }
+    record { root = t .root; owner = owner; below = below; start = t .start; holder = t .holder; transition = transition; hold = hold; leave = t .leave }
 
 -- the tree with other fields of its machines
-abbrev pub withMachines : Tree → (start holder : ℕ → Option ℕ) → Tree
-withMachines t start holder =
-    record { root = t .root; owner = t .owner; below = t .below; start = start; holder = holder; transition = t .transition; hold = t .hold }
+abbrev pub withMachines : Tree → (start holder : ℕ → Option ℕ) → (leave : ℕ → ℕ) → Tree
+withMachines t start holder leave =
+    record { root = t .root; owner = t .owner; below = t .below; start = start; holder = holder; transition = t .transition; hold = t .hold; leave = leave }
 
 -- the tree with o as the owner of node n
 abbrev pub withOwner : Tree → ℕ → Option ℕ → Tree
@@ -65,11 +67,15 @@ withNodeHold t n b = withNodes t (t .owner) (t .below) (t .transition) (put (t .
 
 -- the tree with o as the start node of machine m
 abbrev pub withStartOf : Tree → ℕ → Option ℕ → Tree
-withStartOf t m o = withMachines t (put (t .start) m o) (t .holder)
+withStartOf t m o = withMachines t (put (t .start) m o) (t .holder) (t .leave)
 
 -- the tree with o as the node that holds machine m
 abbrev pub withHolder : Tree → ℕ → Option ℕ → Tree
-withHolder t m o = withMachines t (t .start) (put (t .holder) m o)
+withHolder t m o = withMachines t (t .start) (put (t .holder) m o) (t .leave)
+
+-- the tree where leaving machine m costs c (document 02, W-207)
+abbrev pub withLeave : Tree → ℕ → ℕ → Tree
+withLeave t m c = withMachines t (t .start) (t .holder) (put (t .leave) m c)
 
 -- whether a machine, a node is in use
 abbrev pub usedMachine : Tree → ℕ → Bool
@@ -129,7 +135,8 @@ over t p n = anyOf (λ d. isAt (t .owner d) p) (path t n)
 abbrev pub unlessInto : (ℕ → Bool) → Option Transition → Option Transition
 unlessInto p o = o >>= λ a. unless (p (a .target)) (some a)
 
--- document 01's conditions on a tree: numbers in range, unused records empty, and "well formed"; document 02's of holds (W-205)
+-- document 01's conditions on a tree: numbers in range, unused records empty, and "well formed"; document 02's of holds (W-205) and of leaving
+-- charges (W-207)
 pub record Sound (t : Tree) : Type 0 where
   -- the root is in use and no node holds it
   pub root-used : UsedMachine t (t .root)
@@ -153,5 +160,9 @@ pub record Sound (t : Tree) : Type 0 where
   pub hold-range : (n : ℕ) → t .hold n < 2
   pub hold-used : (n : ℕ) → t .hold n ≡ 1 → UsedNode t n
   pub hold-start : (m s : ℕ) → t .start m ≡ some s → t .hold s ≡ 0
+  -- leaving a machine costs less than 65,536, and nothing where it is not in use or is the root
+  pub leave-range : (m : ℕ) → t .leave m < costs
+  pub leave-used : (m : ℕ) → t .start m ≡ none → t .leave m ≡ 0
+  pub leave-root : t .leave (t .root) ≡ 0
   -- every machine in use climbs to the root in at most 7 steps
   pub climbs : (m s : ℕ) → t .start m ≡ some s → (k : ℕ) × (k < levels) × (iterate (parent t) k m ≡ some (t .root))

@@ -1,5 +1,5 @@
 -- Document 01, "Book and sheet in memory": when a sheet is true. Transitions are those that count: document 02, W-205, has no shut one in a
--- sheet.
+-- sheet. A refined node's exit cost has what leaving the machine below it costs (W-207).
 use mathlib.Core.Path.{_≡_}
 use mathlib.Core.Logic.{_⊎_}
 use mathlib.Core.Bool.{true, false}
@@ -10,14 +10,14 @@ use lib.ListN.{length}
 use Rattle.definitions.specs.Basics.{_>>=_, option, iterate, Least}
 use Rattle.definitions.specs.Limits.{machines, commands, sheetLength, longestChain}
 use Rattle.definitions.specs.Tree.{Tree, parent}
-use Rattle.definitions.specs.Step.{counting, leaving, Arrival, runBy}
+use Rattle.definitions.specs.Step.{counting, Arrival, runBy}
 use Rattle.definitions.specs.Costs.{ExitCost}
 use Rattle.definitions.specs.Sheet.{Rows, machineRowWord, rowsOf}
 
--- a node's own exit cost for a command, by the rows: 0 for a plain node, and for a refined one that of the machine below it. (Below a
--- machine that is not stale none is, so these exit costs are true ones.)
+-- a node's own exit cost for a command, by the rows: 0 for a plain node, and for a refined one that of the machine below it plus what leaving
+-- this machine costs (document 02, W-207). (Below a machine that is not stale none is, so these exit costs are true ones.)
 unfoldable pub nodeExit : Tree → Rows → ℕ → ℕ → Option ℕ
-nodeExit t r n x = option (some 0) (λ m. r .exit m x >>= λ e. some (e + leaving t m)) (t .below n)
+nodeExit t r n x = option (some 0) (λ m. r .exit m x >>= λ e. some (e + t .leave m)) (t .below n)
 
 -- a move inside a machine by the transition of node n for x, where it counts: the exit cost of the node left plus the transition's
 unfoldable pub move : Tree → Rows → ℕ → ℕ → Option Arrival

@@ -1,4 +1,5 @@
--- Document 01, "Writing, choosing, the session", with document 02's holds (W-205): the one stream that Write gives for a tree.
+-- Document 01, "Writing, choosing, the session", with document 02's holds (W-205) and leaving charges (W-207): the one stream that Write gives for
+-- a tree.
 use mathlib.Core.Path.{_≡_}
 use mathlib.Core.Bool.{cond, not, _&&_}
 use mathlib.Core.List.{List, [], _∷_, _++_}
@@ -6,7 +7,7 @@ use Prim.Native.Nat.{ℕ, suc, _/_, _%_}
 use lib.Dec.{eqb}
 use lib.ListN.{length, drop}
 use Rattle.definitions.specs.Basics.{option, joined}
-use Rattle.definitions.specs.Limits.{nodes, commands, levels}
+use Rattle.definitions.specs.Limits.{machines, nodes, commands, levels}
 use Rattle.definitions.specs.Tree.{Tree, onHold, level}
 use Rattle.definitions.specs.Edit.{isStart}
 use Rattle.definitions.specs.Book.{treeOf}
@@ -43,14 +44,19 @@ writtenArrow t n x = option [] (λ a. arrowBytes n x (a .target) (a .cost)) (t .
 unfoldable pub writtenHold : Tree → ℕ → List ℕ
 writtenHold t n = cond (onHold t n) (0x1A ∷ (pair n ++ 1 ∷ [])) []
 
--- the whole stream: begin; for each level first add, then refine, both by rising node; then all arrows by node, then command; last the holds
--- of 1, by node (document 02, W-205)
+-- leave, for machine m where leaving it costs something
+unfoldable pub writtenLeave : Tree → ℕ → List ℕ
+writtenLeave t m = cond (eqb (t .leave m) 0) [] (0x1B ∷ m ∷ pair (t .leave m))
+
+-- the whole stream: begin; for each level first add, then refine, both by rising node; then all arrows by node, then command; then the holds
+-- of 1, by node (document 02, W-205), and last the leaving charges that are not 0, by machine (W-207)
 unfoldable pub written : Tree → List ℕ
 written t =
     writtenBegin t
     ++ (joined levels (λ l. joined nodes (writtenAdd t (suc l)) ++ joined nodes (writtenRefine t (suc l)))
     ++ (joined nodes (λ n. joined commands (writtenArrow t n))
-    ++ joined nodes (writtenHold t)))
+    ++ (joined nodes (writtenHold t)
+    ++ joined machines (writtenLeave t))))
 
 -- bytes are given: their length, and the bytes at the front of the output, the rest untouched; 15 where the output is shorter, writing nothing
 abbrev pub GivesBytes : List ℕ → List ℕ → Answer → List ℕ → Type 0

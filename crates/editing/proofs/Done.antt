@@ -7,14 +7,14 @@ use Prim.Native.Nat.{ℕ, _+_, _*_, _<_}
 use native.Mathlib.Omega.{arith}
 use borrow.Author.Tests.{ne-eqb}
 use Rattle.definitions.specs.Limits.{machines, nodes, costs, absent, blank}
-use Rattle.definitions.specs.Tree.{Tree, Transition, withRoot, withOwner, withBelow, withNodeHold, withStartOf, withHolder, UsedNode}
+use Rattle.definitions.specs.Tree.{Tree, Transition, withRoot, withOwner, withBelow, withNodeHold, withStartOf, withHolder, withLeave, UsedMachine, UsedNode, Sound}
 use Rattle.definitions.specs.Book.{word, transitionWord, number, transitionOf, treeOf}
 use Rattle.definitions.specs.Sheet.{rowsOf}
 use Rattle.definitions.specs.Stream.{Edit}
 use Rattle.definitions.specs.Edit.{edited, withTransition, withStart}
 use Rattle.definitions.proofs.Words.{transition-word}
-use Rattle.definitions.proofs.Commands.{TakenAdd, TakenRefine, TakenArrow, TakenClear, TakenStart, TakenCrown, TakenHold}
-use Rattle.definitions.proofs.Commands.{taken-add, taken-refine, taken-arrow, taken-clear, taken-start, taken-crown, taken-hold}
+use Rattle.definitions.proofs.Commands.{TakenAdd, TakenRefine, TakenArrow, TakenClear, TakenStart, TakenCrown, TakenHold, TakenLeave}
+use Rattle.definitions.proofs.Commands.{taken-add, taken-refine, taken-arrow, taken-clear, taken-start, taken-crown, taken-hold, taken-leave}
 use Rattle.book.specs.Fields.{Holds}
 use Rattle.book.proofs.Stores.{holds-then}
 use Rattle.sheet.specs.Fields.{Leaves, withMark}
@@ -24,12 +24,21 @@ use Rattle.marking.specs.Stale.{LeavesStaleOver}
 use Rattle.sheet.proofs.Stores.{leaves-same}
 use Rattle.editing.specs.Edited.{Ready, Edited}
 use Rattle.editing.proofs.Left.{holds-same, left-edited}
-use Rattle.editing.proofs.Rows.{add-rows, refine-rows, arrow-rows, clear-rows, hold-rows, start-rows, crown-rows}
+use Rattle.editing.proofs.Rows.{add-rows, refine-rows, arrow-rows, clear-rows, hold-rows, leave-rows, start-rows, crown-rows}
 
 -- the word of a machine or a node says its number
 number-of : (k : ℕ) → k < nodes → number k ≡ some k
 unfolding number
 number-of k small = rw (ne-eqb k absent (omega arith))
+
+-- the start node of a machine in use, by its word: it is in use
+module _ {t : Tree} (sound : Sound t) (m : ℕ) {f : ℕ} (used : UsedMachine t m) (told : f ≡ word (t .start m)) where
+  start-at : t .start m ≡ some f
+  unfolding word
+  start-at = let (g, st) = used in st ∙ ap some (sym (told ∙ ap word st))
+
+  pub start-used : UsedNode t f
+  start-used = (m, sound .start-owned m f start-at)
 
 -- ---- add
 
@@ -39,15 +48,6 @@ module _ {b s : List ℕ} {m n : ℕ} (ready : Ready b s (Edit.add m n)) where
   add-taken = taken-add (treeOf b) m n (ready .taken)
 
   module _ {f : ℕ} (told : f ≡ word (treeOf b .start m)) where
-    -- the start node of the machine, by its word
-    add-start : treeOf b .start m ≡ some f
-    unfolding word
-    add-start = let (g, st) = add-taken .machine-used in st ∙ ap some (sym (told ∙ ap word st))
-
-    -- the machine's start node is in use
-    pub add-used : UsedNode (treeOf b) f
-    add-used = (m, ready .formed .sound .start-owned m f add-start)
-
     -- what the marks and the stores leave is what the edit leaves
     pub add-done : {b′ s′ : List ℕ} → LeavesStaleOver (treeOf b) f s s′ → Holds b′ (withOwner (treeOf b) n (number m))
         → Edited b s (Edit.add m n) b′ s′
@@ -55,7 +55,7 @@ module _ {b s : List ℕ} {m n : ℕ} (ready : Ready b s (Edit.add m n)) where
     add-done left held =
         left-edited ready
         (holds-same held (ap (withOwner (treeOf b) n) (number-of m (omega (arith, add-taken .machine-range)))))
-        (leaves-same left (add-rows (ready .formed .sound) m n f add-taken add-start (rowsOf s)))
+        (leaves-same left (add-rows (ready .formed .sound) m n f add-taken (start-at (ready .formed .sound) m (add-taken .machine-used) told) (rowsOf s)))
 
 -- ---- refine
 
@@ -140,6 +140,20 @@ module _ {b s : List ℕ} {n h : ℕ} (ready : Ready b s (Edit.hold n h)) where
   pub hold-done : {b′ s′ : List ℕ} → LeavesStaleOver (treeOf b) n s s′ → Holds b′ (withNodeHold (treeOf b) n h) → Edited b s (Edit.hold n h) b′ s′
   unfolding edited
   hold-done left held = left-edited ready held (leaves-same left (hold-rows (treeOf b) n h (rowsOf s)))
+
+-- ---- leave
+
+module _ {b s : List ℕ} {m c : ℕ} (ready : Ready b s (Edit.leave m c)) where
+  -- what it is done on: a machine in use that is not the root
+  pub leave-taken : TakenLeave (treeOf b) m
+  leave-taken = taken-leave (treeOf b) m c (ready .taken)
+
+  -- what the marks and the store leave is what the edit leaves
+  pub leave-done : {f : ℕ} {b′ s′ : List ℕ} → f ≡ word (treeOf b .start m) → LeavesStaleOver (treeOf b) f s s′
+      → Holds b′ (withLeave (treeOf b) m c) → Edited b s (Edit.leave m c) b′ s′
+  unfolding edited
+  leave-done {f} told left held =
+      left-edited ready held (leaves-same left (leave-rows (treeOf b) m c f (start-at (ready .formed .sound) m (leave-taken .machine-used) told) (rowsOf s)))
 
 -- ---- start
 

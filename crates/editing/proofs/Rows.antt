@@ -82,7 +82,7 @@ unfolding edited editedRows touches
 refine-rows {t} sound n m f taken r =
     new-stale t (edited t (Edit.refine n m f)) sound (λ p. over t p n) r (taken .machine-new) (taken .first-new) (λ p. refl) (λ k. refl)
 
--- arrow, clear and hold: machines and nodes stay
+-- arrow, clear, hold and leave: machines and nodes stay
 pub arrow-rows : (t : Tree) (n x v c : ℕ) (r : Rows) → withStale t (λ p. over t p n) r ≡ editedRows t (Edit.arrow n x v c) r
 unfolding edited editedRows touches withStale withTransition
 arrow-rows t n x v c r = refl
@@ -94,6 +94,10 @@ clear-rows t n x r = refl
 pub hold-rows : (t : Tree) (n b : ℕ) (r : Rows) → withStale t (λ p. over t p n) r ≡ editedRows t (Edit.hold n b) r
 unfolding edited editedRows touches withStale
 hold-rows t n b r = refl
+
+pub leave-rows : (t : Tree) (m c f : ℕ) → t .start m ≡ some f → (r : Rows) → withStale t (λ p. over t p f) r ≡ editedRows t (Edit.leave m c) r
+unfolding edited editedRows touches withStale
+leave-rows t m c f st r = ap (λ (o : Option ℕ). withStale t (λ p. option false (over t p) o) r) (sym st)
 
 -- start: the same machines are in use
 pub start-rows : {t : Tree} → Sound t → (n m : ℕ) → t .owner n ≡ some m → (r : Rows)

@@ -56,6 +56,15 @@ pub fn do_hold(book: &mut [u32], sheet: &mut [u32], n: u32, b: u32)
     book::set_hold(book, n, b);
 }
 
+// Leave: makes c what leaving machine m costs (document 02, W-207). It marks m and all above it; all else stays.
+pub fn do_leave(book: &mut [u32], sheet: &mut [u32], m: u32, c: u32)
+    requires { ⌜ Ready (now book) (now sheet) (Edit.leave m c) ⌝ }
+    ensures { λ r. ⌜ Edited (now (book .entry)) (now (sheet .entry)) (Edit.leave m c) (now (book .exit)) (now (sheet .exit)) ⌝ }
+{
+    marking::touch(book, sheet, book::start(book, m));
+    book::set_leave(book, m, c);
+}
+
 // Start: makes node n the start node of its machine, which it marks with all above it; all else stays.
 pub fn do_start(book: &mut [u32], sheet: &mut [u32], n: u32)
     requires { ⌜ Ready (now book) (now sheet) (Edit.start n) ⌝ }

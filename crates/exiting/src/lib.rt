@@ -1,4 +1,4 @@
-// Exit (document 01, "Exit, step and plan"): what leaving a machine by a command costs, read off a true sheet.
+// Exit (document 01, "Exit, step and plan"): the exit cost of a machine for a command, read off a true sheet.
 ghost use Rattle.definitions.specs.Calls.{ExitSays};
 ghost use Rattle.exiting.specs.Meaning.{answerOf};
 

@@ -52,12 +52,15 @@ node-range n e fails = in-range (sym e ∙ fails)
 pub place-range : (m n : ℕ) {r : Bool} → r ≡ (badMachine m || badNode n) → r ≡ false → (m < machines) × (n < nodes)
 place-range m n e fails = let (a, b) = neither (sym e ∙ fails) in (in-range a, in-range b)
 
--- those of clear, of hold, of refine and of arrow
+-- those of clear, of hold, of leave, of refine and of arrow
 pub clear-range : (n x : ℕ) {r : Bool} → r ≡ (badNode n || badCommand x) → r ≡ false → (n < nodes) × (x < commands)
 clear-range n x e fails = let (a, b) = neither (sym e ∙ fails) in (in-range a, in-range b)
 
 pub hold-range : (n b : ℕ) {r : Bool} → r ≡ (badNode n || badHold b) → r ≡ false → n < nodes
 hold-range n b e fails = in-range (neither (sym e ∙ fails) .0)
+
+pub leave-range : (m q : ℕ) {r : Bool} → r ≡ (badMachine m || eqb m q) → r ≡ false → m < machines
+leave-range m q e fails = in-range (neither (sym e ∙ fails) .0)
 
 pub refine-range : (n m s : ℕ) {r : Bool} → r ≡ (badNode n || badMachine m || badNode s) → r ≡ false
     → (n < nodes) × (m < machines) × (s < nodes)

@@ -1,5 +1,5 @@
-// The refusals 6 to 12 and 21 of a command on a well-formed book, in the documents' order (document 01, "Loading a stream"; document 02, W-205).
-// Each test of a refusal is a function of its own, and a command goes through its tests in turn.
+// The refusals 6 to 12 and 21 of a command on a well-formed book, in the documents' order (document 01, "Loading a stream"; document 02, W-205,
+// W-207). Each test of a refusal is a function of its own, and a command goes through its tests in turn.
 ghost use mathlib.Core.Path.{_≡_};
 ghost use mathlib.Core.Bool.{false, not, _&&_, _||_};
 ghost use Prim.Native.Nat.{ℕ, _<_};
@@ -8,7 +8,7 @@ ghost use Rattle.definitions.specs.Limits.{machines, nodes};
 ghost use Rattle.definitions.specs.Basics.{isSome, option};
 ghost use Rattle.definitions.specs.Tree.{Tree, UsedNode, usedMachine, usedNode, onHold};
 ghost use Rattle.definitions.specs.Book.{treeOf, WellFormed};
-ghost use Rattle.definitions.specs.Stream.{edit, begin, add, refine, remove, arrow, clear, start, crown, hold};
+ghost use Rattle.definitions.specs.Stream.{edit, begin, add, refine, remove, arrow, clear, start, crown, hold, leave};
 ghost use Rattle.definitions.specs.Edit.{badMachine, badNode, badCommand, badHold, isStart, apart, lowest, anyLowest, refusal};
 ghost use Rattle.reading.specs.Meaning.{commandOf};
 use reading::Command;
@@ -55,7 +55,15 @@ fn hold_out_of_range(n: u32, b: u32) -> bool
     bad_node(n) || !(b < 2)
 }
 
-// The same for refine.
+// Whether machine m is out of range, or the root, which nothing leaves.
+fn leave_out_of_range(book: &[u32], m: u32) -> bool
+    requires { ⌜ WellFormed (now book) ⌝ }
+    ensures { λ r. ⌜ r ≡ (badMachine m || eqb m (treeOf (now (book .entry)) .root)) ⌝ }
+{
+    bad_machine(m) || m == book::root(book)
+}
+
+// Whether one of the numbers that refine names is out of range.
 fn refine_out_of_range(n: u32, m: u32, s: u32) -> bool
     ensures { λ r. ⌜ r ≡ (badNode n || badMachine m || badNode s) ⌝ }
 {
@@ -309,6 +317,20 @@ fn judge_hold(book: &[u32], n: u32, b: u32) -> u32
     0
 }
 
+// The refusal of leave.
+fn judge_leave(book: &[u32], m: u32) -> u32
+    requires { ⌜ WellFormed (now book) ⌝ }
+    ensures { λ r. ⌜ ((c : ℕ) → r ≡ refusal (treeOf (now (book .entry))) (edit (leave m c))) ⌝ }
+{
+    if leave_out_of_range(book, m) {
+        return 6;
+    }
+    if !used_machine(book, m) {
+        return 7;
+    }
+    0
+}
+
 // The refusal of crown.
 fn judge_crown(book: &[u32], m: u32, n: u32) -> u32
     requires { ⌜ WellFormed (now book) ⌝ }
@@ -351,5 +373,6 @@ pub fn refusal(book: &[u32], command: Command) -> u32
         Command::Crown { machine, node } => judge_crown(book, machine, node),
         Command::Refresh => 0,
         Command::Hold { node, hold } => judge_hold(book, node, hold),
+        Command::Leave { machine, cost: _ } => judge_leave(book, machine),
     }
 }

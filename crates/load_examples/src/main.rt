@@ -1,5 +1,5 @@
-// Streams loaded, run: the mast book is loaded and refreshed, its exit costs are read, also with holds (document 02, W-205), each refusal of a
-// command is provoked, and sheets with one false word are refused.
+// Streams loaded, run: the mast book is loaded and refreshed, its exit costs are read, also with holds and leaving charges (document 02, W-205,
+// W-207), each refusal of a command is provoked, and sheets with one false word are refused.
 use exiting::ExitAnswer;
 use libc::STDOUT_FILENO;
 
@@ -118,7 +118,7 @@ fn mast_book(book: &mut Book, sheet: &mut Sheet) {
     show_exit(b"exit of 0 by 2:", book, sheet, 0, 2);
 }
 
-// Each refusal of a command, 4 to 11, but for holds.
+// Each refusal of a command, 4 to 11, but for holds and leaving charges.
 fn refusals(book: &mut Book, sheet: &mut Sheet) {
     show_load(b"unknown opcode:", book, sheet, b"\x19\x00\x00\x00\x02");
     show_load(b"cut short:", book, sheet, b"\x14\x00\x00\x00");
@@ -238,6 +238,72 @@ fn holds_gone(book: &mut Book, sheet: &mut Sheet) {
     );
 }
 
+// Leaving machine 1 is charged: which rows are marked, and the exit costs, in which a machine's own leaving does not count; then the largest charge.
+fn leaving(book: &mut Book, sheet: &mut Sheet) {
+    show_load(b"leaving 1 costs 9:", book, sheet, b"\x1B\x01\x00\x09");
+    show_exit(b"its row is marked:", book, sheet, 1, 0);
+    show_exit(b"and the one above:", book, sheet, 0, 0);
+    show_load(b"refresh:", book, sheet, b"\x18");
+    show_exit(b"exit of 1 by 0:", book, sheet, 1, 0);
+    show_exit(b"exit of 1 by 2:", book, sheet, 1, 2);
+    show_exit(b"exit of 0 by 0:", book, sheet, 0, 0);
+    show_exit(b"exit of 0 by 2:", book, sheet, 0, 2);
+    show_load(b"the largest:", book, sheet, b"\x1B\x01\xFF\xFF\x18");
+    show_exit(b"exit of 0 by 0:", book, sheet, 0, 0);
+    show_exit(b"exit of 0 by 2:", book, sheet, 0, 2);
+    falsify(b"exit cost cut to 16 bits:", book, sheet, 1, 4);
+    show_load(b"free again:", book, sheet, b"\x1B\x01\x00\x00\x18");
+    show_exit(b"exit of 0 by 0:", book, sheet, 0, 0);
+}
+
+// Each refusal of a leaving charge.
+fn leaving_refusals(book: &mut Book, sheet: &mut Sheet) {
+    show_load(b"charge cut short:", book, sheet, b"\x1B\x01\x00");
+    show_load(b"charge of machine 64:", book, sheet, b"\x1B\x40\x00\x01");
+    show_load(b"charge of the root:", book, sheet, b"\x1B\x00\x00\x01");
+    show_load(b"charge 0 of the root:", book, sheet, b"\x1B\x00\x00\x00");
+    show_load(
+        b"charge of a machine not in use:",
+        book,
+        sheet,
+        b"\x1B\x05\x00\x01",
+    );
+    show_load(b"an opcode above it:", book, sheet, b"\x1C\x01\x00\x01");
+}
+
+// A charge goes with its machine and with all at a begin; a new root leaves the old one's at 0, and then it may have one.
+fn charges_gone(book: &mut Book, sheet: &mut Sheet) {
+    show_load(
+        b"charged machine removed, refined again:",
+        book,
+        sheet,
+        b"\x10\x00\x00\x00\x12\x00\x00\x01\x00\x0A\x11\x00\x00\x01\x16\x00\x01\x1B\x01\x00\x09\x13\x00\x00\x12\x00\x01\x01\x00\x0A\x18",
+    );
+    show_exit(b"exit of 0 by 0:", book, sheet, 0, 0);
+    show_load(
+        b"charged machine before a begin:",
+        book,
+        sheet,
+        b"\x1B\x01\x00\x09\x10\x00\x00\x00\x12\x00\x00\x01\x00\x0A\x18",
+    );
+    show_exit(b"exit of 0 by 0:", book, sheet, 0, 0);
+    show_load(
+        b"a new root above:",
+        book,
+        sheet,
+        b"\x1B\x01\x00\x09\x17\x02\x00\x14\x18",
+    );
+    show_exit(b"exit of 2 by 0:", book, sheet, 2, 0);
+    show_load(
+        b"the old root charged:",
+        book,
+        sheet,
+        b"\x1B\x00\x00\x07\x18",
+    );
+    show_exit(b"exit of 2 by 0:", book, sheet, 2, 0);
+    show_exit(b"exit of 0 by 0:", book, sheet, 0, 0);
+}
+
 // A stream that is refused on its way: what stands before the refused command is done.
 fn stopped(book: &mut Book, sheet: &mut Sheet) {
     show_load(
@@ -261,8 +327,11 @@ fn main() {
     false_words(&mut book, &mut sheet);
     holds(&mut book, &mut sheet);
     hold_refusals(&mut book, &mut sheet);
+    leaving(&mut book, &mut sheet);
+    leaving_refusals(&mut book, &mut sheet);
     stopped(&mut book, &mut sheet);
     false_names(&mut book, &mut sheet);
     nine_levels(&mut book, &mut sheet);
     holds_gone(&mut book, &mut sheet);
+    charges_gone(&mut book, &mut sheet);
 }

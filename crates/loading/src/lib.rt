@@ -51,6 +51,7 @@ fn do_command(book: &mut [u32], sheet: &mut [u32], command: Command)
         Command::Crown { machine, node } => editing::do_crown(book, sheet, machine, node),
         Command::Refresh => refreshing::refresh(book, sheet),
         Command::Hold { node, hold } => editing::do_hold(book, sheet, node, hold),
+        Command::Leave { machine, cost } => editing::do_leave(book, sheet, machine, cost),
     }
 }
 

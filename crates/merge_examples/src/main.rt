@@ -1,5 +1,5 @@
 // Merges, run (document 02, W-201): the mast book with itself, with the numbers that its machines and nodes get and plans on both halves; the same
-// with holds (W-205); books full to the last number; each refusal, with the words lent for the third book and sheet untouched.
+// with holds (W-205) and with leaving charges (W-207); books full to the last number; each refusal, with the words lent for the third book and sheet untouched.
 use libc::STDOUT_FILENO;
 use planning::PlanAnswer;
 
@@ -219,6 +219,28 @@ fn merge_holds(mast: &Book) {
     show_plan(b"7 to 5:", &book, &sheet, 7, 5);
 }
 
+// The mast book where leaving machine 1 costs 9, merged with one where it costs 4: the charges are at machines 1 and 3.
+fn merge_leaves(mast: &Book) {
+    let mut first = *mast;
+    let mut second = *mast;
+    let mut book = [7u32; book::BOOK];
+    let mut sheet = [7u32; sheet::SHEET];
+    first[4994] = 9;
+    second[4994] = 4;
+    show_merge(
+        b"both with charges:",
+        &first,
+        &second,
+        &mut book,
+        &mut sheet,
+    );
+    show_words(b"charges:", &book, 4993, 4998);
+    show_load(b"refresh:", &mut book, &mut sheet, b"\x18");
+    show_plan(b"0 to 2:", &book, &sheet, 0, 2);
+    show_plan(b"3 to 5:", &book, &sheet, 3, 5);
+    show_plan(b"7 to 5:", &book, &sheet, 7, 5);
+}
+
 // Torn books, eight levels, and eight levels with too few numbers.
 fn refusals(mast: &Book, deep: &Book, ladder: &Book) {
     let mut torn = [0u32; book::BOOK];
@@ -334,6 +356,7 @@ fn main() {
     let other = mast;
     merge_mast(&mast, &other);
     merge_holds(&mast);
+    merge_leaves(&mast);
     lengths(&mast);
     refusals(&mast, &deep, &ladder);
     last_machine(&fresh);

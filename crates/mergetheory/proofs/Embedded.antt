@@ -7,7 +7,7 @@ use mathlib.Core.List.{List, [], _∷_}
 use Prim.Native.Nat.{ℕ, _+_}
 use Rattle.definitions.specs.Basics.{_>>=_, Least}
 use Rattle.definitions.specs.Tree.{Tree, Transition, Sound, UsedNode, isState}
-use Rattle.definitions.specs.Step.{counting, leaving, Climb, found, passed, past, climb, Arrival, runBy, follow, stepIn, step, run, Moves}
+use Rattle.definitions.specs.Step.{counting, Climb, found, passed, past, climb, Arrival, runBy, follow, stepIn, step, run, Moves}
 use Rattle.definitions.specs.Costs.{LeastCost}
 use Rattle.definitions.proofs.Options.{bind-some}
 use Rattle.definitions.proofs.Path.{Enters, plain, down, enters-enter, enters, Inside, climb-own, climb-top, climb-on, climb-found}
@@ -26,7 +26,7 @@ pub record Embeds (t u : Tree) (f g : ℕ → ℕ) : Type 0 where
   pub holder : (m n : ℕ) → t .holder m ≡ some n → u .holder (g m) ≡ some (f n)
   pub counts : (n x : ℕ) (a : Transition) → counting t n x ≡ some a → counting u (f n) x ≡ some (record { target = f (a .target); cost = a .cost })
   pub counts-not : (n m x : ℕ) → t .owner n ≡ some m → counting t n x ≡ none → counting u (f n) x ≡ none
-  pub leaves : (m n : ℕ) → t .holder m ≡ some n → leaving u (g m) ≡ leaving t m
+  pub leaves : (m n : ℕ) → t .holder m ≡ some n → u .leave (g m) ≡ t .leave m
   pub apart : (m s : ℕ) → t .start m ≡ some s → g m ≡ u .root → ⊥
   pub one : (n m k j : ℕ) → t .owner n ≡ some m → t .owner k ≡ some j → f n ≡ f k → n ≡ k
   pub top : ℕ
@@ -80,12 +80,12 @@ module _ {t u : Tree} (st : Sound t) (su : Sound u) {f g : ℕ → ℕ} (em : Em
       rw at (
         _,
         climb-on su (u .root) x (em .owner n (t .root) o) (em .apart (t .root) s used) (em .held) (em .counts-not n (t .root) x o has)
-            ∙ ap (past (leaving u (g (t .root)))) (climb-top u (u .root) (em .top) x (em .top-owner) (em .top-free x)),
+            ∙ ap (past (u .leave (g (t .root)))) (climb-top u (u .root) (em .top) x (em .top-owner) (em .top-free x)),
       )
   embedded-climb {n} x (leaves {m = m} {h = h} {up = up} o other hold has at further) =
       let (s, used) = st .held-used m h hold in
       rw (at, climb-on su (u .root) x (em .owner n m o) (em .apart m s used) (em .holder m h hold) (em .counts-not n m x o has), em .leaves m h hold)
-      (same-past f (leaving t m) up (climb u (u .root) (f h) x) (embedded-climb x further))
+      (same-past f (t .leave m) up (climb u (u .root) (f h) x) (embedded-climb x further))
 
   -- what is found leads to the same state
   embedded-follow : (k j : Climb) → ((n v c : ℕ) → k ≡ found n v c → UsedNode t v) → SameClimb f k j

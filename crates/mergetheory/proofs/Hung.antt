@@ -27,6 +27,11 @@ or-first (some a) e = refl
 or-second : {A : Type 0} {o : Option A} (p : Option A) → o ≡ none → orElse o p ≡ p
 or-second p e = rw e
 
+-- neither
+or-none : {A : Type 0} (o p : Option A) → orElse o p ≡ none → (o ≡ none) × (p ≡ none)
+or-none none p e = (refl, e)
+or-none (some a) p e = absurd (none-some e refl)
+
 -- one of the two
 or-some : {A : Type 0} (o p : Option A) {a : A} → orElse o p ≡ some a → (o ≡ some a) ⊎ (p ≡ some a)
 or-some none p e = inr e
@@ -84,6 +89,10 @@ module _ {t u : Tree} {b : ℕ} (h : Hangs t u b) where
         put-other (beside t u .holder) (u .root) (some b) m (λ same. none-some unstarted (ap (u .start) same ∙ h .second-sound .root-used .1))
         ∙ or-first (t .holder m) (unused-holder u (h .second-sound) m unstarted)
 
+    pub first-leave : hung t u b .leave m ≡ t .leave m
+    unfolding beside
+    first-leave = omega (arith, h .second-sound .leave-used m unstarted)
+
   -- what it says of a node of u is what u says
   module _ {n m : ℕ} (own : u .owner n ≡ some m) where
     new-node : t .owner n ≡ none
@@ -120,6 +129,10 @@ module _ {t u : Tree} {b : ℕ} (h : Hangs t u b) where
     unfolding beside
     second-holder other =
         put-other (beside t u .holder) (u .root) (some b) m other ∙ or-second (u .holder m) (unused-holder t (h .first-sound) m new-machine)
+
+    pub second-leave : hung t u b .leave m ≡ u .leave m
+    unfolding beside
+    second-leave = omega (arith, h .first-sound .leave-used m new-machine)
 
   -- node b holds u's root
   hung-below : hung t u b .below b ≡ some (u .root)
@@ -189,6 +202,12 @@ module _ {t u : Tree} {b : ℕ} (h : Hangs t u b) where
   hold-cases n =
       ⊎-elim (λ new. inr (omega (arith, unused-hold t (h .first-sound) n new))) (λ own. inl (own, first-hold (own .1))) (present (t .owner n))
 
+  -- and so is a leaving cost
+  leave-cases : (m : ℕ) → (hung t u b .leave m ≡ t .leave m) ⊎ (hung t u b .leave m ≡ u .leave m)
+  unfolding beside
+  leave-cases m =
+      ⊎-elim (λ new. inr (omega (arith, h .first-sound .leave-used m new))) (λ used. inl (first-leave (used .1))) (present (t .start m))
+
   -- the whole is sound, if no machine of u comes too deep
   pub hung-sound : ((m f k : ℕ) → u .start m ≡ some f → Deep u m k → k + 1 < levels) → Sound (hung t u b)
   unfolding beside
@@ -239,6 +258,12 @@ module _ {t u : Tree} {b : ℕ} (h : Hangs t u b) where
         hold-start = λ m i e.
             ⊎-elim (λ old. first-hold (st .start-owned m i old) ∙ st .hold-start m i old)
             (λ new. second-hold (su .start-owned m i new) ∙ su .hold-start m i new) (start-cases m i e);
+        leave-range = λ m.
+            ⊎-elim (λ old. omega (arith, old, st .leave-range m)) (λ new. omega (arith, new, su .leave-range m)) (leave-cases m);
+        leave-used = λ m e.
+            let (old, new) = or-none (t .start m) (u .start m) e in
+            omega (arith, st .leave-used m old, su .leave-used m new);
+        leave-root = first-leave root ∙ st .leave-root;
         climbs = λ m i e.
             ⊎-elim (climbs-kept st (hung t u b) refl first-holders first-owners m i)
             (climbs-onto su (under {h = b} hung-holder (first-owners b (t .root) (h .node)) (at-root refl)) second-holders second-owners room m i)

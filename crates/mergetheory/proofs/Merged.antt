@@ -20,10 +20,10 @@ use Rattle.definitions.proofs.Words.{unused-below, unused-transition}
 use Rattle.definitions.proofs.Commands.{TakenAdd, TakenCrown, neither, none-below}
 use Rattle.definitions.proofs.Kept.{put-some, add-sound, crown-sound}
 use Rattle.mergetheory.proofs.Ranks.{Renumbers, rising-renumbers, HasRank, ranked-some, beyond, rank-under}
-use Rattle.mergetheory.proofs.Renumbered.{carried, owner-at, below-at, transition-at, hold-at, start-at, holder-at, deep-moved, renumbered-sound}
+use Rattle.mergetheory.proofs.Renumbered.{carried, owner-at, below-at, transition-at, hold-at, start-at, holder-at, leave-at, deep-moved, renumbered-sound}
 use Rattle.mergetheory.proofs.Hung.{hung, Hangs, hung-sound, hung-holder}
-use Rattle.mergetheory.proofs.Hung.{first-owner, first-below, first-transition, first-hold, first-start, first-holder}
-use Rattle.mergetheory.proofs.Hung.{second-owner, second-below, second-transition, second-hold, second-start, second-holder}
+use Rattle.mergetheory.proofs.Hung.{first-owner, first-below, first-transition, first-hold, first-start, first-holder, first-leave}
+use Rattle.mergetheory.proofs.Hung.{second-owner, second-below, second-transition, second-hold, second-start, second-holder, second-leave}
 use Rattle.mergetheory.proofs.Stands.{goesTo, goes-there, Stands, stands-same}
 
 -- ---- the parts of a merge
@@ -295,6 +295,10 @@ module _ {t u : Tree} (st : Sound t) (su : Sound u) (high : anyLowest t ≡ fals
     unfolding edited
     whole-holder = first-holder hangs (roof-start used ∙ used)
 
+    whole-leave : whole p .leave m ≡ t .leave m
+    unfolding edited
+    whole-leave = first-leave hangs (roof-start used ∙ used)
+
   first-stands : Stands t (whole p) some some
   unfolding edited beside
   first-stands =
@@ -309,6 +313,7 @@ module _ {t u : Tree} (st : Sound t) (su : Sound u) (high : anyLowest t ≡ fals
         start = λ {m} used. whole-start used ∙ sym (bind-same (t .start m));
         holder = λ {m} used other.
             whole-holder used ∙ put-other (t .holder) (t .root) (some (p .first)) m other ∙ sym (bind-same (t .holder m));
+        leave = λ {m} used. whole-leave used;
         apart = λ {m} used. not-root used;
         top = p .first;
         held = whole-holder (st .root-used .1) ∙ put-same (t .holder) (t .root) (some (p .first));
@@ -360,6 +365,7 @@ module _ {t u : Tree} (st : Sound t) (su : Sound u) (high : anyLowest t ≡ fals
         holder = λ {m} used other.
             second-holder hangs (shift-used used) (λ same. other (shift-root used same))
             ∙ holder-at machines-moved (nodeMoves t u) (p .top) u (machine-to used);
+        leave = λ {m} used. second-leave hangs (shift-used used) ∙ leave-at machines-moved (nodeMoves t u) (p .top) u (machine-to used);
         apart = λ {m} used same. none-some not-to-root (ap (machineMoves t u .from) (sym same) ∙ machines-moved .back (machine-to used));
         top = p .second;
         held = ap (whole p .holder) (some-same (machine-to (su .root-used .1)) (p .root-moves)) ∙ hung-holder hangs;

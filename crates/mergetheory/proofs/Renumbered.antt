@@ -1,15 +1,16 @@
 -- A tree at other numbers: what it says of a number is what the tree says of the number that moved there, and it is sound where the tree is.
 -- Assumes nothing.
 use mathlib.Core.Path.{_≡_, refl, sym, _∙_, ap}
+use mathlib.Core.Logic.{⊎-elim}
 use mathlib.Core.Bool.{Bool, true}
 use mathlib.Core.Option.{Option, none, some}
 use Prim.Native.Nat.{ℕ, _<_}
 use native.Mathlib.Omega.{arith}
 use Rattle.definitions.specs.Basics.{_>>=_, option}
-use Rattle.definitions.specs.Limits.{machines, nodes}
+use Rattle.definitions.specs.Limits.{machines, nodes, costs}
 use Rattle.definitions.specs.Tree.{Tree, Transition, Sound, usedMachine, usedNode}
 use Rattle.definitions.specs.Merge.{Renumbering, renumbered, movedTransition}
-use Rattle.definitions.proofs.Options.{bind-some, some-same}
+use Rattle.definitions.proofs.Options.{bind-some, none-some, some-same, present}
 use Rattle.definitions.proofs.Path.{Deep, at-root, under, deep}
 use Rattle.definitions.proofs.Kept.{deep-climbs}
 use Rattle.mergetheory.proofs.Ranks.{Renumbers}
@@ -74,6 +75,11 @@ module _ {ms : Renumbering} {pm qm : ℕ → Bool} (rm : Renumbers ms pm qm) (ns
   unfolding renumbered
   holder-at = rw (rm .back to)
 
+  -- and what leaving it costs
+  pub leave-at : renumbered ms ns r t .leave k ≡ t .leave m
+  unfolding renumbered
+  leave-at = rw (rm .back to)
+
 -- ---- it is sound
 
 module _ {t : Tree} (s : Sound t) {ms ns : Renumbering} {qm qn : ℕ → Bool} (rm : Renumbers ms (usedMachine t) qm)
@@ -131,6 +137,16 @@ module _ {t : Tree} (s : Sound t) {ms ns : Renumbering} {qm qn : ℕ → Bool} (
     hold-came none e = absurd (omega arith)
     hold-came (some k) e = (k, refl, e)
 
+    -- and so is a leaving cost
+    leave-small : (o : Option ℕ) → option 0 (t .leave) o < costs
+    leave-small none = omega arith
+    leave-small (some m) = s .leave-range m
+
+    leave-none : (k : ℕ) → renumbered ms ns r t .start k ≡ none → (o : Option ℕ) → ms .from k ≡ o → option 0 (t .leave) o ≡ 0
+    leave-none k free none came = refl
+    leave-none k free (some m) came =
+        ⊎-elim (λ unused. s .leave-used m unused) (λ used. absurd (none-some free (start-there k came (used .1) .1))) (present (t .start m))
+
     -- the tree at other numbers is sound
     pub renumbered-sound : ((m : ℕ) → qm m ≡ true → m < machines) → ((n : ℕ) → qn n ≡ true → n < nodes) → Sound (renumbered ms ns r t)
     unfolding renumbered
@@ -170,6 +186,9 @@ module _ {t : Tree} (s : Sound t) {ms ns : Renumbering} {qm qn : ℕ → Bool} (
           hold-start = λ m f e.
               let c = carried (ms .from) (t .start) (ns .to) m e in
               rw (rn .back (c .goes)) (s .hold-start (c .number) (c .value) (c .had));
+          leave-range = λ m. leave-small (ms .from m);
+          leave-used = λ m e. leave-none m e (ms .from m) refl;
+          leave-root = rw (rm .back top) (s .leave-root);
           climbs = λ m f e.
               let c = carried (ms .from) (t .start) (ns .to) m e in
               let (j, small, way) = deep s (c .had) in

@@ -8,11 +8,11 @@ use Prim.Native.Nat.{ℕ}
 use lib.Dec.{eqb}
 use Rattle.definitions.specs.Basics.{_>>=_, option}
 use Rattle.definitions.specs.Tree.{Tree, Transition, Sound, isState, onHold}
-use Rattle.definitions.specs.Step.{counting, leaving}
+use Rattle.definitions.specs.Step.{counting}
 use Rattle.definitions.specs.Costs.{LeastCost}
 use Rattle.definitions.specs.Merge.{movedTransition, SameCosts}
 use Rattle.definitions.proofs.Options.{present, some-same, decided}
-use Rattle.definitions.proofs.Path.{leaving-free, counting-is, counting-some, counting-shut, counting-none, root-holder}
+use Rattle.definitions.proofs.Path.{counting-is, counting-some, counting-shut, counting-none, root-holder}
 use Rattle.definitions.proofs.Tests.{state-parts}
 use Rattle.mergetheory.proofs.Embedded.{Embeds, embedded-state, embedded-cost, unembedded-cost}
 
@@ -36,17 +36,12 @@ pub record Stands (t w : Tree) (node machine : ℕ → Option ℕ) : Type 0 wher
   pub hold : {n m : ℕ} → t .owner n ≡ some m → w .hold (goesTo node n) ≡ t .hold n
   pub start : {m f : ℕ} → t .start m ≡ some f → w .start (goesTo machine m) ≡ (t .start m >>= node)
   pub holder : {m f : ℕ} → t .start m ≡ some f → (m ≡ t .root → ⊥) → w .holder (goesTo machine m) ≡ (t .holder m >>= node)
+  pub leave : {m f : ℕ} → t .start m ≡ some f → w .leave (goesTo machine m) ≡ t .leave m
   pub apart : {m f : ℕ} → t .start m ≡ some f → goesTo machine m ≡ w .root → ⊥
   pub top : ℕ
   pub held : w .holder (goesTo machine (t .root)) ≡ some top
   pub top-owner : w .owner top ≡ some (w .root)
   pub top-free : (x : ℕ) → w .transition top x ≡ none
-
--- ---- the two definitions that a step goes by
-
--- leaving a machine costs the same in both
-leaving-same : (t w : Tree) (m k : ℕ) → leaving w k ≡ leaving t m
-leaving-same t w m k = leaving-free w k ∙ sym (leaving-free t m)
 
 -- ---- what follows
 
@@ -85,7 +80,7 @@ module _ {t w : Tree} (st : Sound t) {node machine : ℕ → Option ℕ} (s : St
             let (m, own, there) = st .transition-owned n x a (counting-is t n x a e) in
             counts-there own x ∙ rw (e, s .node-to there);
         counts-not = λ n m x own e. counts-there own x ∙ rw e;
-        leaves = λ m n e. leaving-same t w m (goesTo machine m);
+        leaves = λ m n e. s .leave (st .held-used m n e .1);
         apart = λ m f e. s .apart e;
         one = λ n m k j own other same. s .one (s .node-to own ∙ ap {B = Option ℕ} some same) (s .node-to other);
         top = s .top;

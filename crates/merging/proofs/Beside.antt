@@ -4,13 +4,13 @@ use mathlib.Core.Logic.{_⊎_, inl, inr}
 use mathlib.Core.Bool.{Bool, cond}
 use mathlib.Core.Option.{Option, none, some}
 use mathlib.Core.List.{List}
-use Prim.Native.Nat.{ℕ, zero, suc, _+_, _<_}
+use Prim.Native.Nat.{ℕ, zero, suc, _+_, _^_, _<_}
 use native.Mathlib.Omega.{arith}
 use lib.Dec.{eqb}
 use lib.ListN.{getD}
 use borrow.Author.Tests.{eq-eqb, ne-eqb}
-use Rattle.definitions.specs.Basics.{_>>=_, orElse}
-use Rattle.definitions.specs.Limits.{machines, nodes, absent}
+use Rattle.definitions.specs.Basics.{_>>=_, option, orElse}
+use Rattle.definitions.specs.Limits.{machines, nodes, costs, absent}
 use Rattle.definitions.specs.Tree.{Tree, Sound}
 use Rattle.definitions.specs.Book.{word, machineField, nodeField, treeOf, WellFormed}
 use Rattle.definitions.specs.Merge.{rising, machineMoves, nodeMoves, renumbered, beside}
@@ -159,27 +159,57 @@ node-joins {first} {second} wf ws s k h =
     go (suc zero) n h = refl
     go (suc (suc k)) n h = absurd (omega arith)
 
--- ---- holds
+-- ---- holds and leaving costs
 
-module _ {first second : List ℕ} (wf : WellFormed first) (ws : WellFormed second) (n : ℕ) {own d : ℕ} (said : own ≡ treeOf first .hold n)
-    (came : d ≡ word (nodeMoves (treeOf first) (treeOf second) .from n)) where
-  -- no node moved there: the first's own
-  pub hold-own : d ≡ absent → (s : ℕ) → own ≡ besideTree first second s .hold n
-  unfolding beside renumbered
-  hold-own at s =
-      let gone = absent-none (nodeMoves (treeOf first) (treeOf second) .from n) (omega arith) (from-small nodes _ _ n) came at in
-      rw gone (omega (arith, said))
+-- The numbers X that are the first's and, added to it, what the second has for the record that moved there: one of the two is 0. All are small.
+pub record Sums (X mine other : ℕ → ℕ) (from : ℕ → Option ℕ) (size : ℕ) : Type 0 where
+  pub room : size < absent
+  pub mine-small : (i : ℕ) → mine i < costs
+  pub other-small : (i : ℕ) → other i < costs
+  pub from-small : (i : ℕ) → Small size (from i)
+  pub says : (i : ℕ) → X i ≡ mine i + option 0 other (from i)
+
+module _ {X mine other : ℕ → ℕ} {from : ℕ → Option ℕ} {size : ℕ} (j : Sums X mine other from size) (i : ℕ) {own d : ℕ}
+    (said : own ≡ mine i) (came : d ≡ word (from i)) where
+  -- none moved there: the first's own
+  pub sum-own : d ≡ absent → own ≡ X i
+  sum-own at = rw (j .says i, absent-none (from i) (j .room) (j .from-small i) came at) (omega (arith, said))
 
   module _ (present : d ≡ absent → ⊥) where
-    -- the node that did is one
-    pub hold-from : d < nodes
-    hold-from = present-small nodes (nodeMoves (treeOf first) (treeOf second) .from n) (from-small nodes _ _ n) came present
+    -- the number of the one that did
+    pub sum-from : d < size
+    sum-from = present-small size (from i) (j .from-small i) came present
 
-    -- its hold beside the first's, a small number
-    pub hold-fits : {h : ℕ} → h ≡ treeOf second .hold d → own + h < 4
-    hold-fits told = omega (arith, said, told, wf .sound .hold-range n, ws .sound .hold-range d)
+    module _ {v : ℕ} (told : v ≡ other d) where
+      -- its own beside the first's, a number that a word has room for
+      pub sum-fits : own + v < 2 ^ 32
+      sum-fits = omega (arith, said, told, j .mine-small i, j .other-small d)
 
-    pub hold-moved : {h : ℕ} → h ≡ treeOf second .hold d → (s : ℕ) → own + h ≡ besideTree first second s .hold n
-    unfolding beside renumbered
-    hold-moved told s =
-        rw (present-word (nodeMoves (treeOf first) (treeOf second) .from n) came present) (omega (arith, said, told))
+      pub sum-moved : own + v ≡ X i
+      sum-moved = rw (j .says i, present-word (from i) came present) (omega (arith, said, told))
+
+module _ {first second : List ℕ} (wf : WellFormed first) (ws : WellFormed second) where
+  pub hold-sums : (s : ℕ)
+      → Sums (besideTree first second s .hold) (treeOf first .hold) (treeOf second .hold) (nodeMoves (treeOf first) (treeOf second) .from) nodes
+  unfolding beside renumbered
+  hold-sums s =
+      record {
+        room = omega arith;
+        mine-small = λ n. omega (arith, wf .sound .hold-range n);
+        other-small = λ n. omega (arith, ws .sound .hold-range n);
+        from-small = from-small nodes _ _;
+        says = λ n. refl;
+      }
+
+  pub leave-sums : (s : ℕ)
+      → Sums (besideTree first second s .leave) (treeOf first .leave) (treeOf second .leave) (machineMoves (treeOf first) (treeOf second) .from)
+      machines
+  unfolding beside renumbered
+  leave-sums s =
+      record {
+        room = omega arith;
+        mine-small = wf .sound .leave-range;
+        other-small = ws .sound .leave-range;
+        from-small = from-small machines _ _;
+        says = λ m. refl;
+      }

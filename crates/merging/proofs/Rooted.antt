@@ -73,7 +73,11 @@ module _ (first second : List ℕ) (r a b s : ℕ) where
   unfolding underNewRoot edited beside
   transition-else n x = refl
 
-  -- and so are holds
+  -- and so are leaving costs, a new root's being 0, and holds
+  pub leave-else : (m : ℕ) → besideTree first second s .leave m ≡ rootedTree first second r a b s .leave m
+  unfolding underNewRoot edited beside
+  leave-else m = refl
+
   pub hold-else : (n : ℕ) → besideTree first second s .hold n ≡ rootedTree first second r a b s .hold n
   unfolding underNewRoot edited beside
   hold-else n = refl

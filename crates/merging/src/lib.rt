@@ -175,6 +175,19 @@ fn beside_hold(first: &[u32], second: &[u32], from: &[u32], n: u32) -> u32
     own + book::hold(second, d)
 }
 
+// What leaving machine m costs, with the costs of the second book's machines at their new numbers beside the first's.
+fn beside_leave(first: &[u32], second: &[u32], from: &[u32], m: u32) -> u32
+    requires { ⌜ WellFormed (now first) × WellFormed (now second) × MachineFrom (now first) (now second) (now from) × (m < machines) ⌝ }
+    ensures { λ r. ⌜ ((s : ℕ) → r ≡ besideTree (now (first .entry)) (now (second .entry)) s .leave m) ⌝ }
+{
+    let own = book::leave(first, m);
+    let d = from[m as usize];
+    if d == book::ABSENT {
+        return own;
+    }
+    own + book::leave(second, d)
+}
+
 // The node that holds machine m in the merged book.
 fn merged_holder(first: &[u32], second: &[u32], from: &[u32], to: &[u32], h: NewRoot, m: u32) -> u32
     requires { ⌜ WellFormed (now first) × WellFormed (now second) × MachineFrom (now first) (now second) (now from)
@@ -251,8 +264,10 @@ fn write_machines(
     while m < book::MACHINES {
         let holder = merged_holder(first, second, from, to, h, m);
         let start = merged_start(first, second, from, to, h, m);
+        let leave = beside_leave(first, second, from, m);
         book::set_holder(book, m, holder);
         book::set_start(book, m, start);
+        book::set_leave(book, m, leave);
         m += 1;
     }
 }

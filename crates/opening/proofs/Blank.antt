@@ -53,6 +53,7 @@ pub record Cleared (t : Tree) (m n : ℕ) : Type 0 where
   pub below : Upto n (t .below) (λ i. none)
   pub transition : Upto n (t .transition) (λ i x. none)
   pub hold : Upto n (t .hold) (λ i. 0)
+  pub leave : Upto m (t .leave) (λ i. 0)
 
 -- at first
 pub cleared-none : (t : Tree) → Cleared (withRoot t absent) 0 0
@@ -65,6 +66,7 @@ cleared-none t =
       below = λ i h. absurd (omega arith);
       transition = λ i h. absurd (omega arith);
       hold = λ i h. absurd (omega arith);
+      leave = λ i h. absurd (omega arith);
     }
 
 -- one machine more
@@ -78,6 +80,7 @@ cleared-machine {t} {m} less =
       below = less .below;
       transition = less .transition;
       hold = less .hold;
+      leave = upto-more m (t .leave) (λ i. 0) (less .leave);
     }
 
 -- one node more
@@ -91,6 +94,7 @@ cleared-node {t} {m} {n} less =
       below = upto-more n (t .below) (λ i. none) (less .below);
       transition = upto-more n (t .transition) (λ i x. none) (less .transition);
       hold = upto-more n (t .hold) (λ i. 0) (less .hold);
+      leave = less .leave;
     }
 
 -- a book in which all is cleared has none of a table's rows
@@ -107,6 +111,7 @@ cleared-all ws rows all =
     (λ i h. ap (λ (f : ℕ → Option Transition). f x) (all .transition i h)) n
     ∙ sym (none-linked n x))
     (whole nodes (treeOf ws .hold) (λ n. 0) (all .hold) (λ n past. rw (le-ltb n nodes past)))
+    (whole machines (treeOf ws .leave) (λ m. 0) (all .leave) (λ m past. rw (le-ltb m machines past)))
   where
     none-linked : (n x : ℕ) → linked rows 0 n x ≡ none
     none-linked n zero = ap neighbour (under-out 0 n (nextLower rows n) (omega arith))

@@ -22,7 +22,7 @@ freshRow = 0 ∷ 65535 ∷ 1 ∷ []
 pub fresh-rows : rowTree freshRow ≡ freshTree
 unfolding rowTree rootOf free grown linked neighbour nextLower lastUnder cell rowOwner rowBelow rowStart under number word
     freshTree single
-fresh-rows = same-tree (rowTree freshRow) freshTree root owner below start (under-none machines) transition (λ n. refl)
+fresh-rows = same-tree (rowTree freshRow) freshTree root owner below start (under-none machines) transition (λ n. refl) (λ m. refl)
   where
     start : (m : ℕ) → grown freshRow 1 absent .start m ≡ freshTree .start m
     start zero = refl

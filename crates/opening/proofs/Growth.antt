@@ -157,7 +157,7 @@ module _ (rows : List ℕ) (n : ℕ) where
 
 -- ---- a row is written
 
--- a tree that has no root yet and no hold, of its fields
+-- a tree that has no root yet, no hold and no leaving cost, of its fields
 abbrev rootless : (owner below start holder : ℕ → Option ℕ) → (ℕ → ℕ → Option Transition) → Tree
 rootless owner below start holder transition =
     record {
@@ -168,6 +168,7 @@ rootless owner below start holder transition =
       holder = holder;
       transition = transition;
       hold = λ n. 0;
+      leave = λ m. 0;
     }
 
 -- a store into a book that holds t makes of it the tree that f makes of t, said otherwise

@@ -201,7 +201,7 @@ module _ (rows : List ℕ) (owner : (n : ℕ) → n < ladderNodes → rowOwner r
     unfolding grown ladderTree linked ladderTransition
     ladder-found =
         same-tree (grown rows ladderNodes (rootOf (grown rows ladderNodes absent))) ladderTree root-found owner-all below-all start-found
-        holder-found transition (λ n. refl)
+        holder-found transition (λ n. refl) (λ m. refl)
       where
         owner-all : (n : ℕ) → under ladderNodes n (rowOwner rows n) ≡ given (ltb n ladderNodes) (n / 3)
         owner-all n =

@@ -8,7 +8,7 @@ use native.Mathlib.Omega.{arith}
 use Rattle.definitions.specs.Basics.{iterate, All, Distinct}
 use Rattle.definitions.specs.Limits.{nodes, commands, levels}
 use Rattle.definitions.specs.Tree.{Tree, Sound}
-use Rattle.definitions.specs.Step.{counting, leaving, past, climb, Arrival, stepIn, runIn}
+use Rattle.definitions.specs.Step.{counting, past, climb, Arrival, stepIn, runIn}
 use Rattle.definitions.specs.Costs.{exitBy}
 use Rattle.definitions.specs.Sheet.{Rows}
 use Rattle.definitions.specs.Truth.{nodeExit, Named}
@@ -176,14 +176,14 @@ module _ {t : Tree} (s : Sound t) (r : Rows) (attained : (m f : ℕ) → t .star
 
   -- a refined node is left by the path of the machine below it
   leave-refined : {u b x e d : ℕ} {list : List ℕ} → Inside t top u → t .holder b ≡ some u → Ending t top b x e d list
-      → Leaving t top u x e (d + leaving t b) list
+      → Leaving t top u x e (d + t .leave b) list
   leave-refined {u} {b} {x} {e} {d} {list} i hold end =
       let on = climb-on s top x (end .owned) (inside-apart s hold i (own (end .owned)) (end .owned)) hold (end .free) in
       record {
         at = end .at;
-        left = end .left + leaving t b;
+        left = end .left + t .leave b;
         runs = end .runs;
-        climbs = end .climbs ∙ ap (past (end .left)) on ∙ past-past (end .left) (leaving t b) (climb t top u x);
+        climbs = end .climbs ∙ ap (past (end .left)) on ∙ past-past (end .left) (t .leave b) (climb t top u x);
         exact = omega (arith, end .exact);
         under =
             all-map (Held t b) (Under t u) (λ k inner. let (v, own-v, below-v) = inner in under-held hold own-v below-v)

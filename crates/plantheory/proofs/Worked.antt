@@ -7,7 +7,7 @@ use mathlib.Core.List.{[], _∷_}
 use Prim.Native.Nat.{ℕ}
 use Rattle.definitions.specs.Basics.{put, anyOf, anyBelow}
 use Rattle.definitions.specs.Tree.{Tree, above, pathF, path, level, over}
-use Rattle.definitions.specs.Step.{counting, leaving, look, climb, Arrival}
+use Rattle.definitions.specs.Step.{counting, look, climb, Arrival}
 use Rattle.definitions.specs.Book.{under}
 use Rattle.definitions.specs.Sheet.{Rows}
 use Rattle.definitions.specs.Truth.{nodeExit}
@@ -42,7 +42,7 @@ unfolding freshTree single withTransition edited mastAfter mastTree
 editing = freshTree
 
 searching : Tree
-unfolding above pathF path anyOf anyBelow over counting leaving look climb nodeExit under listed rowOf1 openedFor landF land planMove
+unfolding above pathF path anyOf anyBelow over counting look climb nodeExit under listed rowOf1 openedFor landF land planMove
 searching = freshTree
 
 computing : Tree

@@ -5,17 +5,19 @@ use crate::station::MACHINES;
 use crate::station::NODES;
 use crate::station::NONE;
 use crate::station::OWNER;
+use crate::station::ROOT;
 use crate::station::START;
 use crate::station::Station;
 use crate::station::get;
 use crate::station::is_held;
+use crate::station::is_lower;
 use crate::station::is_start;
 use crate::station::is_state;
 use crate::station::level;
 
 // What is picked: nodes in use and not; in the machine of the node that is given, in another, and that node itself; refined ones; states
-// at the level that is given, and above the lowest that may be; start nodes and others; held ones; machines in use and not; and with the
-// last two one in use half of the time, else any number, some out of range.
+// at the level that is given, and above the lowest that may be; start nodes and others; held ones; machines in use and not, the root, and
+// those in use below it; and with the last two one in use half of the time, else any number, some out of range.
 pub const USED: u32 = 0;
 
 pub const FREE: u32 = 1;
@@ -42,9 +44,13 @@ pub const USED_MACHINE: u32 = 11;
 
 pub const FREE_MACHINE: u32 = 12;
 
-pub const ANY: u32 = 13;
+pub const ROOT_MACHINE: u32 = 13;
 
-pub const ANY_MACHINE: u32 = 14;
+pub const LOWER_MACHINE: u32 = 14;
+
+pub const ANY: u32 = 15;
+
+pub const ANY_MACHINE: u32 = 16;
 
 // A number below n, the next of the generator; 0 where n is 0.
 pub fn draw(seed: &mut u64, n: u32) -> u32
@@ -87,6 +93,12 @@ fn fits(s: &Station, kind: u32, arg: u32, k: u32) -> bool {
     }
     if kind == FREE_MACHINE {
         return k < MACHINES && get(s, START, k) == NONE;
+    }
+    if kind == ROOT_MACHINE {
+        return k == get(s, ROOT, 0);
+    }
+    if kind == LOWER_MACHINE {
+        return is_lower(s, k);
     }
     if kind == FREE {
         return get(s, OWNER, k) == NONE;

@@ -1,6 +1,7 @@
 // The book, the sheet's marks and the answers of Load and Plan, held against the test's own station.
 use crate::flat::FAR;
-use crate::flat::Moved;
+use crate::flat::Moves;
+use crate::flat::distances;
 use crate::flat::plus;
 use crate::flat::reached;
 use crate::flat::step;
@@ -8,6 +9,7 @@ use crate::station::BELOW;
 use crate::station::COST;
 use crate::station::HOLD;
 use crate::station::HOLDER;
+use crate::station::LEAVE;
 use crate::station::MACHINES;
 use crate::station::MARK;
 use crate::station::NODES;
@@ -17,7 +19,6 @@ use crate::station::ROOT;
 use crate::station::START;
 use crate::station::Station;
 use crate::station::TARGET;
-use crate::station::any_held;
 use crate::station::any_marked;
 use crate::station::get;
 use crate::station::is_state;
@@ -34,10 +35,11 @@ use crate::tally::STREAMS;
 use crate::tally::Tally;
 use crate::tally::count;
 use crate::tally::differs;
+use crate::tally::keep_dearest;
 use loading::Loaded;
 use planning::PlanAnswer;
 
-pub const WORDS: usize = 4993;
+pub const WORDS: usize = 5057;
 
 pub type Book = [u32; WORDS];
 
@@ -50,6 +52,13 @@ pub struct Answer {
     pub number: u32,
     pub cost: u32,
     pub count: u32,
+}
+
+// Where a list of commands ends, what it costs, and the cost of its dearest command; "none" where it stops or comes to a state again.
+struct Way {
+    state: u32,
+    cost: u32,
+    dearest: u32,
 }
 
 // The word that document 01 gives a transition of the own station.
@@ -74,6 +83,9 @@ fn word(s: &Station, i: u32) -> u32 {
         let field = if i % 2 == 1 { HOLDER } else { START };
         return get(s, field, (i - 1) / 2);
     }
+    if i >= 4993 {
+        return get(s, LEAVE, i - 4993);
+    }
     if i >= 4737 {
         return get(s, HOLD, i - 4737);
     }
@@ -88,7 +100,7 @@ fn word(s: &Station, i: u32) -> u32 {
 // Compares every word of the book with the station.
 fn compare_book(book: &Book, s: &Station, tally: &mut Tally) {
     let mut i = 0u32;
-    while i < 4993 {
+    while i < 5057 {
         if book[i as usize] != word(s, i) {
             differs(tally, b"book", i, book[i as usize]);
         }
@@ -139,6 +151,7 @@ pub fn load_both(
     let own = stream::run(s, stream, length);
     count(tally, tally::COMMANDS, own.commands);
     count(tally, tally::HOLDS, own.holds);
+    count(tally, tally::CHARGES, own.charges);
     count(tally, LOAD + own.number % 32, 1);
     let got = load_front(book, sheet, stream, length);
     if own.bytes != got.bytes || own.commands != got.commands || own.number != got.number {
@@ -234,34 +247,44 @@ fn visit(seen: &mut [bool; 256], n: u32) -> bool {
     true
 }
 
-// Steps through so many commands from a state: where they end and what they cost; "none" where one stops or comes to a state again.
-fn walk(s: &Station, buffer: &Buffer, a: u32, count: u32) -> Moved {
+// The larger number.
+fn larger(a: u32, b: u32) -> u32 {
+    if a < b { b } else { a }
+}
+
+// Steps through so many commands from a state.
+fn walk(s: &Station, buffer: &Buffer, a: u32, count: u32) -> Way {
     let mut seen = [false; 256];
     visit(&mut seen, a);
     let mut at = a;
     let mut sum = 0u32;
+    let mut dearest = 0u32;
     let mut i = 0u32;
     while i < 255 {
         if i == count {
-            return Moved {
+            return Way {
                 state: at,
                 cost: sum,
+                dearest,
             };
         }
         let moved = step(s, at, wide(buffer[i as usize]));
         at = moved.state;
         sum = plus(sum, moved.cost);
+        dearest = larger(dearest, moved.cost);
         if !visit(&mut seen, at) {
-            return Moved {
+            return Way {
                 state: NONE,
                 cost: 0,
+                dearest: 0,
             };
         }
         i += 1;
     }
-    Moved {
+    Way {
         state: at,
         cost: sum,
+        dearest,
     }
 }
 
@@ -291,6 +314,7 @@ fn compare_way(
     tally: &mut Tally,
 ) {
     let end = walk(s, buffer, a, answer.count);
+    keep_dearest(tally, end.dearest);
     if answer.number != 0 || answer.cost != least {
         differs(tally, b"cost", a, b);
     } else if end.state != b || end.cost != least {
@@ -300,19 +324,27 @@ fn compare_way(
     }
 }
 
-// Counts a plan to b with a node held, and whether its cost is another than with none held.
-pub fn count_holds(
+// Counts the plans from state a to all states, and, at another place, those of them that would have another cost with the other moves.
+pub fn count_changed(
     s: &Station,
-    costs: &[u32; 256],
-    released: &[u32; 256],
-    b: u32,
+    moves: &Moves,
+    others: &Moves,
+    a: u32,
+    among: u32,
+    changed: u32,
     tally: &mut Tally,
 ) {
-    if any_held(s) {
-        count(tally, tally::AMONG_HOLDS, 1);
-    }
-    if reached(costs, b) != reached(released, b) {
-        count(tally, tally::CHANGED, 1);
+    let mut costs = [0u32; 256];
+    distances(moves, a, &mut costs);
+    let mut other = [0u32; 256];
+    distances(others, a, &mut other);
+    count(tally, among, states(s) as usize);
+    let mut b = 0u32;
+    while b < NODES {
+        if is_state(s, b) && reached(&costs, b) != reached(&other, b) {
+            count(tally, changed, 1);
+        }
+        b += 1;
     }
 }
 

@@ -4,6 +4,7 @@ use crate::station::COMMANDS;
 use crate::station::COST;
 use crate::station::HOLD;
 use crate::station::HOLDER;
+use crate::station::LEAVE;
 use crate::station::LEVELS;
 use crate::station::MACHINES;
 use crate::station::MARK;
@@ -31,6 +32,11 @@ pub fn release(s: &mut Station) {
     zero(s, HOLD);
 }
 
+// Takes away every leaving charge.
+pub fn waive(s: &mut Station) {
+    zero(s, LEAVE);
+}
+
 // Marks machine m and all above it.
 fn mark_up(s: &mut Station, m: u32) {
     let mut at = m;
@@ -47,6 +53,7 @@ pub fn begin(s: &mut Station, m: u32, n: u32) {
     *s = [NONE; WORDS];
     unmark(s);
     release(s);
+    waive(s);
     put(s, ROOT, 0, m);
     put(s, START, m, n);
     add(s, m, n);
@@ -85,6 +92,12 @@ pub fn arrow(s: &mut Station, n: u32, x: u32, v: u32, c: u32) {
 pub fn set_hold(s: &mut Station, n: u32, b: u32) {
     put(s, HOLD, n, b);
     let m = get(s, OWNER, n);
+    mark_up(s, m);
+}
+
+// Makes c the leaving charge of machine m.
+pub fn set_leave(s: &mut Station, m: u32, c: u32) {
+    put(s, LEAVE, m, c);
     mark_up(s, m);
 }
 
@@ -137,6 +150,7 @@ fn drop_machines(s: &mut Station, gone: &[bool; 256]) {
             put(s, HOLDER, m, NONE);
             put(s, START, m, NONE);
             put(s, MARK, m, 0);
+            put(s, LEAVE, m, 0);
         }
         m += 1;
     }

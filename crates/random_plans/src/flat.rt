@@ -13,6 +13,7 @@ use crate::station::above;
 use crate::station::get;
 use crate::station::is_held;
 use crate::station::is_state;
+use crate::station::leaving;
 use crate::station::transition;
 
 // The cost of a state that is not reached.
@@ -62,6 +63,22 @@ fn lowest(s: &Station, n: u32, x: u32) -> u32 {
     NONE
 }
 
+// What leaving the machines costs that a command climbs past from a state on up, before it comes to the node that acts.
+fn climbing(s: &Station, n: u32, acting: u32) -> u32 {
+    let mut at = n;
+    let mut sum = 0u32;
+    let mut i = 0u32;
+    while i < LEVELS {
+        if at == acting {
+            return sum;
+        }
+        sum = plus(sum, leaving(s, at));
+        at = above(s, at);
+        i += 1;
+    }
+    sum
+}
+
 // One command at a state.
 pub fn step(s: &Station, n: u32, x: u32) -> Moved {
     let at = lowest(s, n, x);
@@ -73,7 +90,7 @@ pub fn step(s: &Station, n: u32, x: u32) -> Moved {
     }
     Moved {
         state: enter(s, transition(s, TARGET, at, x)),
-        cost: transition(s, COST, at, x),
+        cost: plus(climbing(s, n, at), transition(s, COST, at, x)),
     }
 }
 

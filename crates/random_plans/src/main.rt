@@ -1,6 +1,7 @@
-// Random books, with nodes held and with none, edited by random streams and planned for pairs of states; all that Load and Plan answer and
-// leave is compared with a station of the test's own, kept from the streams' bytes alone, and with a flat search on it. Then document 01's
-// examples of plan buffers and numbers of nodes on the mast book, and the dearest plan that there can be.
+// Random books, with nodes held and with none, with leaving charges and with none, edited by random streams and planned for pairs of states;
+// all that Load and Plan answer and leave is compared with a station of the test's own, kept from the streams' bytes alone, and with a flat
+// search on it. Then document 01's examples of plan buffers and numbers of nodes on the mast book, the longest plan that there can be, and
+// the dearest.
 mod chance;
 mod compare;
 mod edits;
@@ -21,13 +22,15 @@ use compare::ask;
 use compare::compare_no;
 use compare::compare_plan;
 use compare::compare_words;
-use compare::count_holds;
+use compare::count_changed;
 use compare::load_both;
 use compare::longest;
 use flat::Moves;
 use shapes::of;
 use station::NODES;
 use station::Station;
+use station::any_charged;
+use station::any_held;
 use station::any_marked;
 use station::is_state;
 use station::states;
@@ -50,26 +53,22 @@ fn open(book: &mut Book, sheet: &mut Sheet, s: &mut Station, ladder: bool, tally
     compare_words(book, sheet, s, tally);
 }
 
-// Plans from a state to all states. The second moves are those with no node held.
+// Plans from a state to all states.
 fn plan_from(
     book: &Book,
     sheet: &Sheet,
     s: &Station,
     moves: &Moves,
-    released: &Moves,
     a: u32,
     room: u32,
     tally: &mut Tally,
 ) {
     let mut costs = [0u32; 256];
     flat::distances(moves, a, &mut costs);
-    let mut others = [0u32; 256];
-    flat::distances(released, a, &mut others);
     let mut b = 0u32;
     while b < NODES {
         if is_state(s, b) {
             let lent = if b % 2 == 0 { 255 } else { room };
-            count_holds(s, &costs, &others, b, tally);
             compare_plan(book, sheet, s, &costs, a, b, lent, tally);
         }
         b += 1;
@@ -81,6 +80,46 @@ fn released_moves(s: &Station, moves: &mut Moves) {
     let mut next = *s;
     edits::release(&mut next);
     flat::all_moves(&next, moves);
+}
+
+// The moves with no leaving charge.
+fn waived_moves(s: &Station, moves: &mut Moves) {
+    let mut next = *s;
+    edits::waive(&mut next);
+    flat::all_moves(&next, moves);
+}
+
+// Counts the plans from a state among holds and among leaving charges.
+fn count_from(
+    s: &Station,
+    moves: &Moves,
+    released: &Moves,
+    waived: &Moves,
+    a: u32,
+    tally: &mut Tally,
+) {
+    if any_held(s) {
+        count_changed(
+            s,
+            moves,
+            released,
+            a,
+            tally::AMONG_HOLDS,
+            tally::CHANGED_BY_HOLDS,
+            tally,
+        );
+    }
+    if any_charged(s) {
+        count_changed(
+            s,
+            moves,
+            waived,
+            a,
+            tally::AMONG_CHARGES,
+            tally::CHANGED_BY_CHARGES,
+            tally,
+        );
+    }
 }
 
 // Plans from all states, or of many states from some, to all states.
@@ -96,13 +135,16 @@ fn plan_all(
     flat::all_moves(s, &mut moves);
     let mut released = [0u32; 8192];
     released_moves(s, &mut released);
+    let mut waived = [0u32; 8192];
+    waived_moves(s, &mut waived);
     let all = states(s);
     let room = longest(all);
     let mut a = 0u32;
     while a < NODES {
         if is_state(s, a) {
             if draw(seed, all) < sources {
-                plan_from(book, sheet, s, &moves, &released, a, room, tally);
+                count_from(s, &moves, &released, &waived, a, tally);
+                plan_from(book, sheet, s, &moves, a, room, tally);
             }
         }
         a += 1;
@@ -185,6 +227,14 @@ fn run_stream(
     run_singles(book, sheet, s, seed, tally);
 }
 
+// Counts a book, and whether it has a leaving charge at its end.
+fn count_book(s: &Station, tally: &mut Tally) {
+    count(tally, tally::BOOKS, 1);
+    if any_charged(s) {
+        count(tally, tally::CHARGED_BOOKS, 1);
+    }
+}
+
 // Builds a book, in a holding opened anew or on what the last book left, and edits it.
 fn run_book(
     book: &mut Book,
@@ -194,7 +244,6 @@ fn run_book(
     shape: u32,
     tally: &mut Tally,
 ) {
-    count(tally, tally::BOOKS, 1);
     let ladder = of(shape, shapes::LADDER) == 1;
     if ladder || once_in(seed, 2) {
         open(book, sheet, s, ladder, tally);
@@ -206,6 +255,7 @@ fn run_book(
         run_stream(book, sheet, s, seed, shape, false, tally);
         i += 1;
     }
+    count_book(s, tally);
 }
 
 // All books of a shape, and its line.
@@ -213,7 +263,7 @@ fn run_shape(name: &[u8], shape: u32) {
     let mut book = [0u32; compare::WORDS];
     let mut sheet = [0u32; 2880];
     let mut s = [0u32; station::WORDS];
-    let mut tally = [0u64; 72];
+    let mut tally = [0u64; tally::PLACES];
     let mut seed = 20250101 + shape as u64;
     open(&mut book, &mut sheet, &mut s, false, &mut tally);
     let books = of(shape, shapes::BOOKS);
@@ -263,17 +313,17 @@ fn run_given(
 ) {
     let mut s = [0u32; station::WORDS];
     let mut seed = 1u64;
-    count(tally, tally::BOOKS, 1);
     open(book, sheet, &mut s, false, tally);
     load_both(book, sheet, &mut s, stream, length, tally);
     plan_after(book, sheet, &mut s, &mut seed, sources, tally);
+    count_book(&s, tally);
 }
 
-// The longest line: the dearest plan that there can be fills the buffer.
+// The longest line: its plan fills the buffer.
 fn line_book() {
     let mut book = [0u32; compare::WORDS];
     let mut sheet = [0u32; 2880];
-    let mut tally = [0u64; 72];
+    let mut tally = [0u64; tally::PLACES];
     let mut stream = [0u8; 8192];
     let length = making::line(&mut stream);
     run_given(&stream, length, 4, &mut book, &mut sheet, &mut tally);
@@ -282,11 +332,25 @@ fn line_book() {
     show_plan(b"0 to 255 with 254 bytes:", &book, &sheet, 255, 254);
 }
 
+// The dearest plan that there can be, a buffer that is too short for it, and the dearest command that there can be.
+fn dearest_book() {
+    let mut book = [0u32; compare::WORDS];
+    let mut sheet = [0u32; 2880];
+    let mut tally = [0u64; tally::PLACES];
+    let mut stream = [0u8; 8192];
+    let length = making::dearest(&mut stream);
+    run_given(&stream, length, 4, &mut book, &mut sheet, &mut tally);
+    line(b"dearest", &tally);
+    show_plan(b"0 to 255 with 248 bytes:", &book, &sheet, 255, 248);
+    show_plan(b"0 to 255 with 247 bytes:", &book, &sheet, 255, 247);
+    show_plan(b"0 to 9:", &book, &sheet, 9, 255);
+}
+
 // Document 01's mast book: every pair of states, the shortest buffer and one that is too short, and nodes in range and out of it.
 fn mast() {
     let mut book = [0u32; compare::WORDS];
     let mut sheet = [0u32; 2880];
-    let mut tally = [0u64; 72];
+    let mut tally = [0u64; tally::PLACES];
     let mut stream = [0u8; 8192];
     let length = copy(
         b"\x10\x00\x00\x00\x11\x00\x00\x01\x11\x00\x00\x02\x12\x00\x01\x01\x00\x0A\x11\x01\x00\x0B\x14\x00\x00\x00\x00\x01\x00\x05\x14\x00\x00\x02\x00\x02\x00\x14\x14\x00\x01\x01\x00\x02\x00\x03\x14\x00\x02\x00\x00\x00\x00\x07\x14\x00\x0A\x01\x00\x0A\x00\x01\x14\x00\x0A\x02\x00\x0B\x00\x04",
@@ -311,4 +375,5 @@ fn main() {
     run_shape(b"edited", 7);
     mast();
     line_book();
+    dearest_book();
 }

@@ -8,9 +8,11 @@ use crate::chance::FREE;
 use crate::chance::FREE_MACHINE;
 use crate::chance::HELD;
 use crate::chance::HIGH;
+use crate::chance::LOWER_MACHINE;
 use crate::chance::LOWEST;
 use crate::chance::NOT_STARTING;
 use crate::chance::REFINED;
+use crate::chance::ROOT_MACHINE;
 use crate::chance::SAME;
 use crate::chance::STARTING;
 use crate::chance::USED;
@@ -57,8 +59,10 @@ const HOLD: Kind = [0x1A, USED_MACHINE, NOT_STARTING, USED];
 
 const HOLD_AGAIN: Kind = [0x1A, USED_MACHINE, HELD, USED];
 
+const LEAVE: Kind = [0x1B, LOWER_MACHINE, USED, USED];
+
 // Kinds that are refused: a node refined again, a start node removed, a transition into another machine, a start node held, a held node made
-// the start node, unknown opcodes.
+// the start node, a leaving charge for the root and for a machine not in use, unknown opcodes.
 const REFINE_AGAIN: Kind = [0x12, FREE_MACHINE, REFINED, FREE];
 
 const REMOVE_START: Kind = [0x13, USED_MACHINE, STARTING, USED];
@@ -69,11 +73,15 @@ const HOLD_START: Kind = [0x1A, USED_MACHINE, STARTING, USED];
 
 const RESTART_HELD: Kind = [0x16, USED_MACHINE, HELD, USED];
 
+const LEAVE_ROOT: Kind = [0x1B, ROOT_MACHINE, USED, USED];
+
+const LEAVE_FREE: Kind = [0x1B, FREE_MACHINE, USED, USED];
+
 const BELOW_KNOWN: Kind = [0x0F, USED_MACHINE, USED, USED];
 
 const BETWEEN_KNOWN: Kind = [0x19, USED_MACHINE, USED, USED];
 
-const ABOVE_KNOWN: Kind = [0x1B, USED_MACHINE, USED, USED];
+const ABOVE_KNOWN: Kind = [0x1C, USED_MACHINE, USED, USED];
 
 // Writes a byte, and gives the place after it; a full stream stays as it is.
 fn put(stream: &mut Bytes, at: usize, b: u32) -> usize {
@@ -117,6 +125,10 @@ fn write(stream: &mut Bytes, at: usize, o: Order) -> usize {
         }
         0x15 => put_both(stream, a, o.node, o.command),
         0x1A => put_both(stream, a, o.node, o.hold),
+        0x1B => {
+            let b = put(stream, a, o.machine);
+            put_pair(stream, b, o.cost)
+        }
         _ => a,
     }
 }
@@ -131,6 +143,18 @@ fn random_cost(seed: &mut u64, shape: u32) -> u32 {
         return most;
     }
     draw(seed, most)
+}
+
+// Of eight leaving charges, in every shape two are the largest that there is and one is 0; the rest are below the shape's largest cost.
+fn random_charge(seed: &mut u64, shape: u32) -> u32 {
+    let k = draw(seed, 8);
+    if k < 2 {
+        return 65535;
+    }
+    if k == 2 {
+        return 0;
+    }
+    draw(seed, of(shape, shapes::LARGEST))
 }
 
 // The byte of a hold: 1 twice as often as 0, and now and then another; often another where some symbols are out of range too.
@@ -152,18 +176,23 @@ fn make(s: &Station, seed: &mut u64, shape: u32, kind: Kind, symbols: u32) -> Or
     let v = pick(s, seed, kind[3], n);
     let x = draw(seed, symbols);
     let b = random_hold(seed, symbols);
-    new_order(kind[0], m, n, v, x, random_cost(seed, shape), b)
+    let c = if kind[0] == 0x1B {
+        random_charge(seed, shape)
+    } else {
+        random_cost(seed, shape)
+    };
+    new_order(kind[0], m, n, v, x, c, b)
 }
 
 // The opcode of any edit but begin.
 fn any_edit(seed: &mut u64) -> u32 {
-    let k = draw(seed, 8);
-    if k == 7 { 0x1A } else { 0x11 + k }
+    let k = draw(seed, 9);
+    if k >= 7 { 0x13 + k } else { 0x11 + k }
 }
 
 // A kind for a command that is refused, or would be in most stations; in the last several things may be wrong at once.
 fn wrong_kind(seed: &mut u64) -> Kind {
-    let k = draw(seed, 18);
+    let k = draw(seed, 20);
     match k {
         0 => REFINE_AGAIN,
         1 => REMOVE_START,
@@ -174,13 +203,20 @@ fn wrong_kind(seed: &mut u64) -> Kind {
         6 => ABOVE_KNOWN,
         7 => HOLD_START,
         8 => RESTART_HELD,
+        9 => LEAVE_ROOT,
+        10 => LEAVE_FREE,
         _ => [any_edit(seed), ANY_MACHINE, ANY, ANY],
     }
 }
 
+// A leaving charge; where there is no machine that can be left, the command that makes one.
+fn leave_kind(s: &Station) -> Kind {
+    if depth(s) > 1 { LEAVE } else { REFINE }
+}
+
 // A kind for a random command; the numbers say how often each comes.
-fn any_kind(seed: &mut u64, shape: u32) -> Kind {
-    let k = draw(seed, 76);
+fn any_kind(s: &Station, seed: &mut u64, shape: u32) -> Kind {
+    let k = draw(seed, 84);
     match k {
         0 => {
             if of(shape, shapes::CHURN) == 1 {
@@ -201,6 +237,7 @@ fn any_kind(seed: &mut u64, shape: u32) -> Kind {
         37..=38 => wrong_kind(seed),
         39..=48 => HOLD,
         49..=50 => HOLD_AGAIN,
+        51..=58 => leave_kind(s),
         _ => ARROW,
     }
 }
@@ -257,10 +294,17 @@ fn build(s: &mut Station, seed: &mut u64, shape: u32, stream: &mut Bytes) -> usi
     let e = repeat(s, seed, shape, ADD, shapes::MORE, stream, d);
     let f = repeat(s, seed, shape, ARROW, shapes::ARROWS, stream, e);
     let g = repeat(s, seed, shape, SELF, shapes::SELVES, stream, f);
+    let h = if once_in(seed, 2) {
+        g
+    } else {
+        repeat(s, seed, shape, HOLD, shapes::HOLDS, stream, g)
+    };
     if once_in(seed, 2) {
-        return g;
+        return h;
     }
-    repeat(s, seed, shape, HOLD, shapes::HOLDS, stream, g)
+    let kind = leave_kind(s);
+    let i = extend(s, seed, shape, kind, stream, h);
+    repeat(s, seed, shape, LEAVE, shapes::HOLDS, stream, i)
 }
 
 // The length of a stream that is now and then cut short by a byte.
@@ -280,7 +324,7 @@ fn mix(s: &mut Station, seed: &mut u64, shape: u32, stream: &mut Bytes) -> usize
     let mut end = 0usize;
     let mut i = 0u32;
     while i < count {
-        let kind = any_kind(seed, shape);
+        let kind = any_kind(s, seed, shape);
         end = extend(s, seed, shape, kind, stream, end);
         i += 1;
     }
@@ -321,4 +365,42 @@ pub fn line(bytes: &mut Bytes) -> usize {
         n += 1;
     }
     at
+}
+
+// Writes the root with node 1 and seven machines below that, one in the other, with the largest leaving charges; machine m starts at node
+// m + 1, and the lowest has node 0 too, which leads to itself by command 1.
+fn nested(bytes: &mut Bytes) -> usize {
+    let mut at = write(bytes, 0, new_order(0x10, 0, 1, 0, 0, 0, 0));
+    let mut m = 1u32;
+    while m < 8 {
+        let next = write(bytes, at, new_order(0x12, m, m, m + 1, 0, 0, 0));
+        at = write(bytes, next, new_order(0x1B, m, 0, 0, 0, 65535, 0));
+        m += 1;
+    }
+    let end = write(bytes, at, new_order(0x11, 7, 0, 0, 0, 0, 0));
+    write(bytes, end, new_order(0x14, 0, 0, 0, 1, 0, 0))
+}
+
+// The transition into the root's node after n: from node n, but into 9 and 133 from node 1, which holds the machines, by two commands.
+fn root_arrow(n: u32) -> Order {
+    let v = n % NODES + 1;
+    match n {
+        8 => new_order(0x14, 0, 1, v, 0, 65535, 0),
+        132 => new_order(0x14, 0, 1, v, 1, 65535, 0),
+        _ => new_order(0x14, 0, n, v, 0, 65535, 0),
+    }
+}
+
+// Writes the book of the dearest plan that there can be, and gives its length. A way that comes to no state twice enters no machine twice
+// and leaves at most seven machines more than it enters, and each machine below the root takes a node from the states: so no plan costs more
+// than 255 + 7 times the largest cost. Here the way from node 0 to 255 comes to every state, and leaves the seven machines twice.
+pub fn dearest(bytes: &mut Bytes) -> usize {
+    let mut at = nested(bytes);
+    let mut n = 8u32;
+    while n < 255 {
+        let next = write(bytes, at, new_order(0x11, 0, n + 1, 0, 0, 0, 0));
+        at = write(bytes, next, root_arrow(n));
+        n += 1;
+    }
+    write(bytes, at, new_order(0x14, 0, 132, 1, 0, 65535, 0))
 }

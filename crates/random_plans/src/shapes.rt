@@ -28,7 +28,7 @@ pub const MORE: u32 = 11;
 pub const ARROWS: u32 = 12;
 // so many from refined nodes to themselves,
 pub const SELVES: u32 = 13;
-// and, half of the time, so many holds.
+// half of the time, so many holds, and, half of the time, as many leaving charges.
 pub const HOLDS: u32 = 14;
 // 1: begin is among the random commands.
 pub const CHURN: u32 = 15;

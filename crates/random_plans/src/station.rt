@@ -12,7 +12,8 @@ pub const LEVELS: u32 = 8;
 pub const NONE: u32 = 65535;
 
 // The fields, with a word for each node or machine: owner and machine below of a node, start, holder and mark of a machine; the root at 0 of
-// its field; for each command a field of targets and one of costs; and the hold of a node, 1 where it is held.
+// its field; for each command a field of targets and one of costs; the hold of a node, 1 where it is held; and the leaving charge of a
+// machine.
 pub const OWNER: u32 = 0;
 
 pub const BELOW: u32 = 1;
@@ -31,10 +32,12 @@ pub const COST: u32 = 22;
 
 pub const HOLD: u32 = 38;
 
-pub const FIELDS: u32 = 39;
+pub const LEAVE: u32 = 39;
+
+pub const FIELDS: u32 = 40;
 
 // The words of all fields.
-pub const WORDS: usize = 9984;
+pub const WORDS: usize = 10240;
 
 pub type Station = [u32; WORDS];
 
@@ -80,6 +83,16 @@ pub fn is_start(s: &Station, n: u32) -> bool {
 // Whether node n is held.
 pub fn is_held(s: &Station, n: u32) -> bool {
     get(s, HOLD, n) == 1
+}
+
+// Whether machine m is in use and not the root.
+pub fn is_lower(s: &Station, m: u32) -> bool {
+    get(s, START, m) != NONE && m != get(s, ROOT, 0)
+}
+
+// What leaving node n's machine costs.
+pub fn leaving(s: &Station, n: u32) -> u32 {
+    get(s, LEAVE, get(s, OWNER, n))
 }
 
 // The node that holds node n's machine; none at the root's nodes.
@@ -147,11 +160,11 @@ fn one_if(b: bool) -> u32
     if b { 1 } else { 0 }
 }
 
-// Whether a field has a 1.
-fn any_one(s: &Station, field: u32) -> bool {
+// Whether a field has another number than 0.
+fn any_set(s: &Station, field: u32) -> bool {
     let mut i = 0u32;
     while i < NODES {
-        if get(s, field, i) == 1 {
+        if get(s, field, i) != 0 {
             return true;
         }
         i += 1;
@@ -161,12 +174,17 @@ fn any_one(s: &Station, field: u32) -> bool {
 
 // Whether a machine is marked.
 pub fn any_marked(s: &Station) -> bool {
-    any_one(s, MARK)
+    any_set(s, MARK)
 }
 
 // Whether a node is held.
 pub fn any_held(s: &Station) -> bool {
-    any_one(s, HOLD)
+    any_set(s, HOLD)
+}
+
+// Whether leaving a machine costs something.
+pub fn any_charged(s: &Station) -> bool {
+    any_set(s, LEAVE)
 }
 
 // Makes a field 0 at all numbers.

@@ -9,6 +9,7 @@ use crate::station::MACHINES;
 use crate::station::NODES;
 use crate::station::NONE;
 use crate::station::OWNER;
+use crate::station::ROOT;
 use crate::station::START;
 use crate::station::Station;
 use crate::station::depth;
@@ -34,18 +35,21 @@ pub struct Order {
     pub hold: u32,
 }
 
-// What became of the next command: the bytes that it took, and 1 where it holds a node; or 0, and the refusal, 0 at the stream's end.
+// What became of the next command: the bytes that it took, 1 where it holds a node, and 1 where it makes leaving a machine cost something;
+// or 0, and the refusal, 0 at the stream's end.
 pub struct Turn {
     pub size: usize,
     pub hold: u32,
+    pub charge: u32,
     pub number: u32,
 }
 
-// Bytes taken, commands taken, those that hold a node, and 0 or the refusal.
+// Bytes taken, commands taken, those that hold a node, those that make leaving a machine cost something, and 0 or the refusal.
 pub struct Counts {
     pub bytes: usize,
     pub commands: usize,
     pub holds: usize,
+    pub charges: usize,
     pub number: u32,
 }
 
@@ -81,7 +85,7 @@ fn operands(op: u32) -> usize
     ensures { λ r. ⌜ r ≤ 9 ⌝ }
 {
     match op {
-        0x10 | 0x11 | 0x15 | 0x17 | 0x1A => 3,
+        0x10 | 0x11 | 0x15 | 0x17 | 0x1A | 0x1B => 3,
         0x12 => 5,
         0x13 | 0x16 => 2,
         0x14 => 7,
@@ -124,13 +128,17 @@ fn decode(stream: &Bytes, at: usize) -> Order {
         0x15 => new_order(op, 0, first, 0, third, 0, 0),
         0x18 => new_order(op, 0, 0, 0, 0, 0, 0),
         0x1A => new_order(op, 0, first, 0, 0, 0, third),
+        0x1B => new_order(op, one(stream, at, 1), 0, 0, 0, two(stream, at, 2), 0),
         _ => new_order(op, one(stream, at, 1), two(stream, at, 2), 0, 0, 0, 0),
     }
 }
 
-// 6: a number out of range, or a hold that is neither 1 nor 0.
-fn out_of_range(o: Order) -> bool {
+// 6: a number out of range, a hold that is neither 1 nor 0, or a leaving charge for the root.
+fn out_of_range(s: &Station, o: Order) -> bool {
     if o.machine >= MACHINES {
+        return true;
+    }
+    if o.op == 0x1B && o.machine == get(s, ROOT, 0) {
         return true;
     }
     if o.node >= NODES {
@@ -149,7 +157,7 @@ fn out_of_range(o: Order) -> bool {
 fn missing(s: &Station, o: Order) -> bool {
     let op = o.op;
     match op {
-        0x11 => get(s, START, o.machine) == NONE,
+        0x11 | 0x1B => get(s, START, o.machine) == NONE,
         0x12 | 0x13 | 0x15 | 0x16 | 0x1A => get(s, OWNER, o.node) == NONE,
         0x14 => get(s, OWNER, o.node) == NONE || get(s, OWNER, o.other) == NONE,
         _ => false,
@@ -198,7 +206,7 @@ fn number_if(b: bool, number: u32) -> u32 {
 
 // The number that an order is refused with on this station; 0 where it is taken.
 fn refusal(s: &Station, o: Order) -> u32 {
-    if out_of_range(o) {
+    if out_of_range(s, o) {
         return 6;
     }
     if missing(s, o) {
@@ -227,6 +235,7 @@ fn perform(s: &mut Station, o: Order) {
         0x16 => edits::restart(s, o.node),
         0x17 => edits::crown(s, o.machine, o.node),
         0x1A => edits::set_hold(s, o.node, o.hold),
+        0x1B => edits::set_leave(s, o.machine, o.cost),
         _ => edits::unmark(s),
     }
 }
@@ -236,6 +245,7 @@ fn stopped(number: u32) -> Turn {
     Turn {
         size: 0,
         hold: 0,
+        charge: 0,
         number,
     }
 }
@@ -261,6 +271,7 @@ pub fn take(s: &mut Station, stream: &Bytes, length: usize, at: usize) -> Turn {
     Turn {
         size: size + 1,
         hold: order.hold,
+        charge: number_if(order.op == 0x1B && order.cost != 0, 1),
         number: 0,
     }
 }
@@ -270,6 +281,7 @@ pub fn run(s: &mut Station, stream: &Bytes, length: usize) -> Counts {
     let mut bytes = 0usize;
     let mut commands = 0usize;
     let mut holds = 0usize;
+    let mut charges = 0usize;
     while commands < 8192 {
         let turn = take(s, stream, length, bytes);
         let size = turn.size;
@@ -278,17 +290,20 @@ pub fn run(s: &mut Station, stream: &Bytes, length: usize) -> Counts {
                 bytes,
                 commands,
                 holds,
+                charges,
                 number: turn.number,
             };
         }
         bytes += size % 16;
         commands += 1;
         holds = holds % 8192 + (turn.hold % 2) as usize;
+        charges = charges % 8192 + (turn.charge % 2) as usize;
     }
     Counts {
         bytes,
         commands,
         holds,
+        charges,
         number: 0,
     }
 }

@@ -1,7 +1,10 @@
 // What was counted for a shape, and the lines that are written.
 use libc::STDOUT_FILENO;
 
-pub type Tally = [u64; 72];
+// All places.
+pub const PLACES: usize = 77;
+
+pub type Tally = [u64; PLACES];
 
 // Refusals of Load stand at their numbers, those of Plan at 32 and their numbers, 'no way' among them.
 pub const LOAD: u32 = 0;
@@ -25,18 +28,41 @@ pub const HOLDS: u32 = 69;
 
 pub const AMONG_HOLDS: u32 = 70;
 
-pub const CHANGED: u32 = 71;
+pub const CHANGED_BY_HOLDS: u32 = 71;
+
+// Leaving charges other than 0 that were taken, plans in books that have one, and those of them that would have another cost with none; the
+// books that have one at their end; and the cost of the dearest command of a plan.
+pub const CHARGES: u32 = 72;
+
+pub const AMONG_CHARGES: u32 = 73;
+
+pub const CHANGED_BY_CHARGES: u32 = 74;
+
+pub const CHARGED_BOOKS: u32 = 75;
+
+pub const DEAREST: u32 = 76;
 
 // The count at a place.
 pub fn get(tally: &Tally, i: u32) -> u64 {
-    if i < 72 { tally[i as usize] } else { 0 }
+    if (i as usize) < PLACES {
+        tally[i as usize]
+    } else {
+        0
+    }
 }
 
 // Counts so many more at a place.
 pub fn count(tally: &mut Tally, i: u32, more: usize) {
     let sum = get(tally, i) % 1000000000000 + (more % 1000000) as u64;
-    if i < 72 {
+    if (i as usize) < PLACES {
         tally[i as usize] = sum;
+    }
+}
+
+// Keeps the cost of the dearest command.
+pub fn keep_dearest(tally: &mut Tally, cost: u32) {
+    if cost as u64 > get(tally, DEAREST) {
+        tally[DEAREST as usize] = cost as u64;
     }
 }
 
@@ -68,14 +94,19 @@ fn refusals(tally: &Tally, base: u32) {
 pub fn line(name: &[u8], tally: &Tally) {
     text(name);
     say(b": books ", get(tally, BOOKS));
-    say(b", streams ", get(tally, STREAMS));
+    say(b" (with charges ", get(tally, CHARGED_BOOKS));
+    say(b"), streams ", get(tally, STREAMS));
     say(b", commands taken ", get(tally, COMMANDS));
     say(b", holds ", get(tally, HOLDS));
+    say(b", charges ", get(tally, CHARGES));
     text(b", refused");
     refusals(tally, LOAD);
     say(b"; plans ", get(tally, PLANS));
     say(b", among holds ", get(tally, AMONG_HOLDS));
-    say(b", changed by them ", get(tally, CHANGED));
+    say(b", changed by them ", get(tally, CHANGED_BY_HOLDS));
+    say(b", among charges ", get(tally, AMONG_CHARGES));
+    say(b", changed by them ", get(tally, CHANGED_BY_CHARGES));
+    say(b", dearest command ", get(tally, DEAREST));
     say(b", no way ", get(tally, NO_WAY));
     text(b", refused");
     refusals(tally, PLAN);

@@ -73,5 +73,5 @@ column-right column e op =
     entry-behind column op (place-on op (omega arith)) (omega (arith, leb-true (length column) 0x0F short))
     ∙ sym
     (unknown op (λ e. omega arith) (λ e. omega arith) (λ e. omega arith) (λ e. omega arith) (λ e. omega arith) (λ e. omega arith)
-    (λ e. omega arith) (λ e. omega arith) (λ e. omega arith) (λ e. omega arith)))
+    (λ e. omega arith) (λ e. omega arith) (λ e. omega arith) (λ e. omega arith) (λ e. omega arith)))
     (less-or-not op 0x20)

@@ -14,9 +14,9 @@ use Rattle.definitions.proofs.Streams.{known-decodes, read-nothing, read-unknow
 
 -- an opcode that is none of these is unknown
 pub unknown : (op : ℕ) → (op ≡ 0x10 → ⊥) → (op ≡ 0x11 → ⊥) → (op ≡ 0x12 → ⊥) → (op ≡ 0x13 → ⊥) → (op ≡ 0x14 → ⊥)
-    → (op ≡ 0x15 → ⊥) → (op ≡ 0x16 → ⊥) → (op ≡ 0x17 → ⊥) → (op ≡ 0x18 → ⊥) → (op ≡ 0x1A → ⊥) → operandLength op ≡ none
+    → (op ≡ 0x15 → ⊥) → (op ≡ 0x16 → ⊥) → (op ≡ 0x17 → ⊥) → (op ≡ 0x18 → ⊥) → (op ≡ 0x1A → ⊥) → (op ≡ 0x1B → ⊥) → operandLength op ≡ none
 unfolding operandLength
-unknown op a b c d e f g h i j =
+unknown op a b c d e f g h i j k =
     rw (
       ne-eqb op 0x10 a,
       ne-eqb op 0x11 b,
@@ -28,6 +28,7 @@ unknown op a b c d e f g h i j =
       ne-eqb op 0x17 h,
       ne-eqb op 0x18 i,
       ne-eqb op 0x1A j,
+      ne-eqb op 0x1B k,
     )
 
 -- ---- what stands next behind the bytes that are taken

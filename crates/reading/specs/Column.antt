@@ -1,4 +1,4 @@
--- Document 02, W-204: a column of operand lengths, and the place that an opcode has in it (0x1A, W-205's, has the tenth).
+-- Document 02, W-204: a column of operand lengths, and the place that an opcode has in it (the last are 0x1A, W-205's, and 0x1B, W-207's).
 use mathlib.Core.Bool.{cond}
 use mathlib.Core.Option.{Option}
 use mathlib.Core.List.{List}

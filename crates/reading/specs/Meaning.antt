@@ -4,11 +4,11 @@ use mathlib.Core.Option.{Option, none, some}
 use mathlib.Core.List.{List}
 use Prim.Native.Nat.{ℕ, _+_, _<_}
 use lib.ListN.{length, drop}
-use Rattle.definitions.specs.Stream.{begin, add, refine, remove, arrow, clear, start, crown, hold, edit, refresh}
+use Rattle.definitions.specs.Stream.{begin, add, refine, remove, arrow, clear, start, crown, hold, leave, edit, refresh}
 use Rattle.definitions.specs.Stream.{Next, ended, taken, refused, operandLength, readNext}
 use Rattle.definitions.specs.Stream.{Command as Meant}
 use Rattle.reading.specs.declared.Command.{Command}
-use Rattle.reading.specs.declared.Command.the-variants.{Begin, Add, Refine, Remove, Arrow, Clear, Start, Crown, Refresh, Hold}
+use Rattle.reading.specs.declared.Command.the-variants.{Begin, Add, Refine, Remove, Arrow, Clear, Start, Crown, Refresh, Hold, Leave}
 use Rattle.reading.specs.declared.Place.{Place}
 use Rattle.reading.specs.declared.Place.the-variants.{At, Nowhere}
 use Rattle.reading.specs.declared.Operands.{Operands}
@@ -41,6 +41,7 @@ commandOf (Start n) = edit (start n)
 commandOf (Crown m n) = edit (crown m n)
 commandOf Refresh = refresh
 commandOf (Hold n b) = edit (hold n b)
+commandOf (Leave m c) = edit (leave m c)
 
 -- the command of an opcode, if it has one
 abbrev pub decodedOf : Decoded → Option Meant
@@ -65,6 +66,7 @@ Narrow (Start n) = n < 65536
 Narrow (Crown m n) = (m < 256) × (n < 65536)
 Narrow Refresh = Unit
 Narrow (Hold n b) = (n < 65536) × (b < 256)
+Narrow (Leave m c) = (m < 256) × (c < 65536)
 
 abbrev pub NarrowDecoded : Decoded → Type 0
 NarrowDecoded (Known c) = Narrow c

@@ -6,7 +6,7 @@ ghost use Rattle.definitions.specs.Stream.{operandLength, byteAt, pairAt, decod
 ghost use Rattle.reading.specs.Column.{place, entry};
 ghost use Rattle.reading.specs.Meaning.{placeOf, operandsOf, decodedOf, NarrowDecoded, Whole, NextRead};
 
-// The ten commands of a stream, with their operands.
+// The eleven commands of a stream, with their operands.
 pub enum Command {
     Begin {
         machine: u32,
@@ -46,11 +46,15 @@ pub enum Command {
         node: u32,
         hold: u32,
     },
+    Leave {
+        machine: u32,
+        cost: u32,
+    },
 }
 
 // The column of operand lengths: how many bytes of operands each opcode of document 01's list has, in the order of that list, and then those
 // of document 02. Nodes and costs take two bytes, machines, commands and holds one.
-const LENGTHS: [u8; 10] = [
+const LENGTHS: [u8; 11] = [
     3, // 0x10 begin: machine, start node
     3, // 0x11 add: machine, new node
     5, // 0x12 refine: node, new machine, its new start node
@@ -61,6 +65,7 @@ const LENGTHS: [u8; 10] = [
     3, // 0x17 crown: new root machine, its one node
     0, // 0x18 refresh
     3, // 0x1A hold: node, 1 or 0
+    3, // 0x1B leave: machine, cost
 ];
 
 // The place of an opcode in a column, which may end before it; or that the opcode has none.
@@ -190,7 +195,11 @@ fn decode(stream: &[u8], at: usize, op: u32) -> Decoded
             node: operand_pair(stream, at, 0),
             hold: operand(stream, at, 2),
         }),
-        0x00..=0x0F | 0x19 | 0x1B..=0xFFFFFFFF => Decoded::Unknown,
+        0x1B => Decoded::Known(Command::Leave {
+            machine: operand(stream, at, 0),
+            cost: operand_pair(stream, at, 1),
+        }),
+        0x00..=0x0F | 0x19 | 0x1C..=0xFFFFFFFF => Decoded::Unknown,
     }
 }
 

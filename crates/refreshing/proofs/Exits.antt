@@ -7,7 +7,7 @@ use mathlib.Core.List.{List}
 use Prim.Native.Nat.{ℕ, _+_, _≤_, _<_}
 use native.Mathlib.Omega.{arith}
 use lib.ListN.{length}
-use Rattle.definitions.specs.Limits.{commands, absent, blank, sheetLength}
+use Rattle.definitions.specs.Limits.{commands, absent, blank, sheetLength, largestPlanCost}
 use Rattle.definitions.specs.Tree.{Tree, Sound}
 use Rattle.definitions.specs.Step.{counting}
 use Rattle.definitions.specs.Book.{number, transitionWord}
@@ -20,14 +20,14 @@ use Rattle.search.specs.Parts.{at}
 use Rattle.sheet.specs.Fields.{Leaves, withExit, withLast}
 use Rattle.sheet.proofs.Stores.{leaves-then}
 use Rattle.search.proofs.Reading.{reached-is, reached-some}
-use Rattle.refreshing.specs.Parts.{ExitsKept, CostFits, distances, largestDistance, Way, LeavesAt, WayCosts, Cheapest}
+use Rattle.refreshing.specs.Parts.{ExitsKept, CostFits, distances, Way, LeavesAt, WayCosts, Cheapest}
 use Rattle.refreshing.specs.Parts.{IsNear, NearOut, ExitWritten, ExitsWritten}
 use Rattle.refreshing.proofs.Row.{kept-exit, cheapest-kept}
 
 -- ---- what leaving from one node costs
 
 -- a node that is reached is near
-pub near-there : {d : ℕ} → IsNear d → (d ≡ unreached → ⊥) → d ≤ largestDistance
+pub near-there : {d : ℕ} → IsNear d → (d ≡ unreached → ⊥) → d ≤ largestPlanCost
 near-there {d} far there = far .near d (reached-is d there)
 
 -- a node that is never left

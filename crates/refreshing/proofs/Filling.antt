@@ -78,7 +78,7 @@ module _ {t : Tree} (sound : Sound t) {r q : Rows} (rows : TrueRows t r) {m s : 
             owner = λ n own. own;
             below = λ n own. refl;
             counting = λ n x own range. refl;
-            leaving = λ n b own down. refl;
+            leave = λ n b own down. refl;
           };
           below = λ n b x own down range.
               fills .exit b x

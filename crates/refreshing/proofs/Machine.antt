@@ -16,12 +16,15 @@ use Rattle.definitions.proofs.Options.{none-some, some-same, put-same, put-othe
 use Rattle.definitions.proofs.Words.{under-in, start-range}
 use Rattle.search.specs.Search.{Certificate, Searched, Tables, reached, distanceOf, nameOf, moveOf}
 use Rattle.search.specs.Parts.{at}
+use Rattle.search.proofs.Reading.{move-row}
 use Rattle.sheet.specs.Fields.{Leaves, withMark}
 use Rattle.search.specs.Tables.{Tabled, TableRoom, FoundRoom}
 use Rattle.refreshing.specs.Parts.{Fills, ExitsKept, Members, Gathered, Searches, memberMove}
 use Rattle.refreshing.specs.Parts.{NodesFilled, Writable, NodesWritten, ExitFilled, IsNear, NearOut, ExitsWritten}
 use Rattle.refreshing.specs.Refresh.{Fillable, Filled}
 use Rattle.refreshing.proofs.Gathering.{gathered-members}
+use Rattle.definitions.proofs.Reached.{reached-bound}
+use Rattle.refreshing.proofs.Certified.{far-relaxed, far-reached}
 use Rattle.refreshing.proofs.Row.{kept-exit, cheapest-kept, exits-bound, moves-tables, searched-true}
 use Rattle.refreshing.proofs.Exits.{near-kept}
 
@@ -96,30 +99,41 @@ module _ {t : Tree} (sound : Sound t) {r : Rows} {m s k : ℕ} (used : t .start 
           let led = cert .named i c (λ same. none-some (ap (nameOf k before) same ∙ cert .start-before) name) near in
           omega (arith, some-same name (led .names-node), led .node-range)
 
-  -- a distance is at most that of 255 moves
-  distance-near : (i : ℕ) → i < k → IsNear (at dist i)
-  distance-near i small =
-      record { near = λ c e. omega (arith, cert .bound i c (distance-at k dist small ∙ e), group .small) }
-
-  -- what is found can be written
-  pub searches-writable : Writable k members dist before by
-  searches-writable =
-      record {
-        members-room = found .gathered .members-room;
-        room = found .room;
-        small = group .small;
-        inside = member-range;
-        apart = λ i j low high same. sym (group .back i low) ∙ ap (at places) same ∙ group .back j high;
-        costs = λ i small. record { fits = λ c e. omega (arith, distance-near i small .near c e) };
-        names = λ i small. record {
-          room = found .gathered .members-room;
-          fits = λ j e.
-              let inside : j < k = name-place i j (name-at k before small ∙ e) in
-              (omega (arith, group .small), member-range j inside);
-        };
-      }
-
   module _ (rows : TrueRows t r) (able : Fillable t m r) where
+    -- the moves of the tables are those of the machine
+    steps : (i x : ℕ) → i < k → x < commands → moveOf k target price i x ≡ memberMove t r (at members) (at places) i x
+    steps i x small range = move-row target price i x k small ∙ found .tabled .moves i x small range
+
+    -- a distance is no more than the largest cost of a plan
+    distance-near : (i : ℕ) → i < k → IsNear (at dist i)
+    distance-near i small =
+        record {
+          near = λ c e.
+              let own = group .owned i small in
+              let there : distanceOf k dist (at places (at members i)) ≡ some c =
+              ap (distanceOf k dist) (group .back i small) ∙ distance-at k dist small ∙ e in
+              reached-bound sound r rows used (able .below) (λ n. distanceOf k dist (at places n)) (cert .start-distance)
+              (far-relaxed sound r used group steps cert) own there (far-reached sound r used group steps cert (at members i) c own there);
+        }
+
+    -- what is found can be written
+    pub searches-writable : Writable k members dist before by
+    searches-writable =
+        record {
+          members-room = found .gathered .members-room;
+          room = found .room;
+          small = group .small;
+          inside = member-range;
+          apart = λ i j low high same. sym (group .back i low) ∙ ap (at places) same ∙ group .back j high;
+          costs = λ i small. record { fits = λ c e. omega (arith, distance-near i small .near c e) };
+          names = λ i small. record {
+            room = found .gathered .members-room;
+            fits = λ j e.
+                let inside : j < k = name-place i j (name-at k before small ∙ e) in
+                (omega (arith, group .small), member-range j inside);
+          };
+        }
+
     -- the nodes are near, and their own exits bounded, whatever the machine's own row says
     pub searches-near : {q : Rows} → ExitsKept m r q → NearOut t q m k members dist
     searches-near kept =

@@ -6,7 +6,7 @@ use mathlib.Core.List.{List}
 use Prim.Native.Nat.{ℕ, _*_, _≤_, _<_}
 use native.Mathlib.Omega.{arith}
 use lib.ListN.{length}
-use Rattle.definitions.specs.Limits.{commands, largestPlanCost}
+use Rattle.definitions.specs.Limits.{commands}
 use Rattle.definitions.specs.Tree.{Tree, Sound}
 use Rattle.definitions.specs.Step.{Arrival}
 use Rattle.definitions.specs.Sheet.{Rows}
@@ -14,11 +14,12 @@ use Rattle.definitions.specs.Truth.{nodeExit, move, TrueRows}
 use Rattle.definitions.proofs.Options.{bind-some, some-same}
 use Rattle.definitions.proofs.LocalTruth.{move-owned}
 use Rattle.rows.proofs.Locality.{SameMoves, same-exit, same-move}
-use Rattle.search.specs.Search.{Certificate, Tables, moveOf}
+use Rattle.search.specs.Search.{Certificate, largestMove, Tables, moveOf}
 use Rattle.search.proofs.Reading.{move-some, move-row, row-words}
 use Rattle.search.specs.Tables.{Tabled}
 use Rattle.refreshing.specs.Parts.{Fills, Members, placed, NodesFilled, Way, Cheapest, ExitFilled, ExitsKept, memberMove}
-use Rattle.refreshing.proofs.Bounds.{below-other, own-exit-bound, move-bound}
+use Rattle.definitions.proofs.Reached.{own-exit-bound}
+use Rattle.refreshing.proofs.Bounds.{below-other, move-bound}
 use Rattle.refreshing.proofs.Filling.{fill-true}
 use Rattle.refreshing.proofs.Certified.{certified-relaxed, certified-attained}
 
@@ -35,7 +36,7 @@ module _ {t : Tree} (sound : Sound t) {m : ℕ} {r q : Rows} (kept : ExitsKept m
           owner = λ n own. own;
           below = λ n own. refl;
           counting = λ n x own range. refl;
-          leaving = λ n b own down. refl;
+          leave = λ n b own down. refl;
         };
         below = λ n b x own down range. kept .same b x (below-other sound own down);
       }
@@ -80,8 +81,9 @@ module _ {t : Tree} (sound : Sound t) {r : Rows} (rows : TrueRows t r) {m s : �
     (below : (n b : ℕ) → t .owner n ≡ some m → t .below n ≡ some b → r .stale b ≡ false) {k : ℕ} {members places : ℕ → ℕ}
     (g : Members t m k members places) where
   -- the own exits of the machine's nodes are bounded
-  pub exits-bound : (i x e : ℕ) → i < k → x < commands → nodeExit t r (members i) x ≡ some e → e ≤ largestPlanCost
-  exits-bound i x e small = own-exit-bound sound r rows (members i) (λ b bel. below (members i) b (g .owned i small) bel) x e
+  pub exits-bound : (i x e : ℕ) → i < k → x < commands → nodeExit t r (members i) x ≡ some e → e ≤ largestMove
+  exits-bound i x e small range exits =
+      omega (arith, own-exit-bound sound r rows (members i) (λ b bel. below (members i) b (g .owned i small) bel) x e range exits)
 
   module _ {target price : List ℕ} (table : Tabled (memberMove t r members places) k target price) where
     -- the tables are what the search asks
@@ -137,9 +139,9 @@ module _ {t : Tree} (sound : Sound t) {r : Rows} (rows : TrueRows t r) {m s : �
           says-exit = e .says-exit;
           says-last = e .says-last;
         } in
-        let bound : (i x e : ℕ) → i < k → x < commands → nodeExit t q (members i) x ≡ some e → e ≤ largestPlanCost =
+        let bound : (i x e : ℕ) → i < k → x < commands → nodeExit t q (members i) x ≡ some e → e ≤ largestMove =
         λ i x e small range leaves.
         exits-bound i x e small range (sym (kept-exit sound kept (members i) x (g .owned i small) range) ∙ leaves) in
         fill-true sound rows used stale below fills
-        (certified-relaxed sound used g steps cert filled filled-exits bound)
-        (certified-attained sound used g steps cert filled filled-exits bound)
+        (certified-relaxed sound q used g steps cert filled filled-exits bound)
+        (certified-attained sound q used g steps cert filled filled-exits bound)

@@ -126,10 +126,6 @@ pub record NodesWritten (i : ℕ) (members dist before by sheet after : List ℕ
 
 -- ---- the exits of one machine
 
--- the largest distance over 256 nodes: 255 moves
-abbrev pub largestDistance : ℕ
-largestDistance = 255 * largestMove
-
 -- the distances that a list's words say
 abbrev pub distances : List ℕ → ℕ → Option ℕ
 distances dist i = reached (at dist i)
@@ -169,9 +165,9 @@ pub record ExitFilled (t : Tree) (r : Rows) (members : ℕ → ℕ) (distance : 
   pub says-exit : exit ≡ reached least
   pub says-last : last ≡ number node
 
--- a distance is no more than the largest
+-- a distance is no more than the largest cost of a plan
 pub record IsNear (d : ℕ) : Type 0 where
-  pub near : (c : ℕ) → reached d ≡ some c → c ≤ largestDistance
+  pub near : (c : ℕ) → reached d ≡ some c → c ≤ largestPlanCost
 
 -- so are the distances of the k nodes
 pub record Near (k : ℕ) (members dist : List ℕ) : Type 0 where
@@ -181,11 +177,11 @@ pub record Near (k : ℕ) (members dist : List ℕ) : Type 0 where
   pub inside : (i : ℕ) → i < k → at members i < nodes
   pub near : (i : ℕ) → i < k → IsNear (at dist i)
 
--- and the k nodes belong to machine m and are left at no more than the largest cost of a plan
+-- and the k nodes belong to machine m and are left at no more than the largest cost of a move
 pub record NearOut (t : Tree) (r : Rows) (m k : ℕ) (members dist : List ℕ) : Type 0 where
   pub reach : Near k members dist
   pub owned : (i : ℕ) → i < k → t .owner (at members i) ≡ some m
-  pub out : (i x e : ℕ) → i < k → x < commands → nodeExit t r (at members i) x ≡ some e → e ≤ largestPlanCost
+  pub out : (i x e : ℕ) → i < k → x < commands → nodeExit t r (at members i) x ≡ some e → e ≤ largestMove
 
 -- the exit of machine m for x is written, and nothing else is touched
 pub record ExitWritten (t : Tree) (m k x : ℕ) (members dist sheet after : List ℕ) : Type 0 where

@@ -3,7 +3,7 @@
 ghost use mathlib.Core.Path.{_≡_};
 ghost use Prim.Native.Nat.{ℕ, _+_, _-_, _≤_, _<_};
 ghost use lib.ListN.{length};
-ghost use Rattle.definitions.specs.Limits.{machines, nodes, commands, sheetLength};
+ghost use Rattle.definitions.specs.Limits.{machines, nodes, commands, sheetLength, largestPlanCost};
 ghost use Rattle.definitions.specs.Book.{number, treeOf, WellFormed};
 ghost use Rattle.definitions.specs.Sheet.{costOf, rowsOf};
 ghost use Rattle.definitions.specs.Truth.{nodeExit, move, TrueSheet};
@@ -14,7 +14,7 @@ ghost use Rattle.sheet.specs.Exits.{Readable};
 ghost use Rattle.sheet.specs.Fields.{Leaves};
 ghost use Rattle.refreshing.specs.Parts.{Gathered, placed, memberMove, Placing, Searches};
 ghost use Rattle.refreshing.specs.Parts.{memberOf, withNode, CostFits, PlaceFits, Writable, NodesWritten};
-ghost use Rattle.refreshing.specs.Parts.{distances, largestDistance, LeavesAt, WayCosts, Cheapest, IsNear, Near, NearOut};
+ghost use Rattle.refreshing.specs.Parts.{distances, LeavesAt, WayCosts, Cheapest, IsNear, Near, NearOut};
 ghost use Rattle.refreshing.specs.Parts.{ExitWritten, ExitsWritten};
 ghost use Rattle.refreshing.specs.Refresh.{machineLevel, MachineLevels, Fillable, Filled, FreshBelow, StepFilled, FilledBelow};
 ghost use Rattle.refreshing.specs.Refresh.{Refreshes};
@@ -62,7 +62,7 @@ fn gather(book: &[u32], m: u32, members: &mut [u32], places: &mut [u32]) -> u32
 
 // What it costs to come to node n at cost d, leave it by command x and go on at cost w; UNREACHED where n is never left by x.
 fn leave(book: &[u32], sheet: &[u32], n: u32, x: u32, d: u64, w: u32) -> u64
-    requires { ⌜ Readable (now book) (now sheet) × (n < nodes) × (x < commands) × (d ≤ largestDistance) ⌝ }
+    requires { ⌜ Readable (now book) (now sheet) × (n < nodes) × (x < commands) × (d ≤ largestPlanCost) ⌝ }
     ensures { λ r. ⌜ LeavesAt (nodeExit (treeOf (now (book .entry))) (rowsOf (now (sheet .entry))) n x) d w r ⌝ }
 {
     let OwnExit::Costs(e) = sheet::own_exit(book, sheet, n, x) else {

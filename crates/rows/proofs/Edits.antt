@@ -9,7 +9,7 @@ use lib.Dec.{eqb}
 use borrow.Author.Tests.{eqb-true, eqb-false, ne-eqb}
 use Rattle.definitions.specs.Basics.{option, iterate}
 use Rattle.definitions.specs.Tree.{Tree, Transition, Sound, onHold, parent, within, over}
-use Rattle.definitions.specs.Step.{counting, leaving}
+use Rattle.definitions.specs.Step.{counting}
 use Rattle.definitions.specs.Sheet.{Rows}
 use Rattle.definitions.specs.Truth.{TrueRows}
 use Rattle.definitions.specs.Stream.{Edit, edit}
@@ -18,7 +18,7 @@ use Rattle.definitions.specs.Open.{openRows}
 use Rattle.definitions.proofs.Options.{iterate-more, bind-some, present, none-some, some-same, decided, true-false, equal-or-not}
 use Rattle.definitions.proofs.Path.{counting-some, counting-shut, counting-none}
 use Rattle.definitions.proofs.Commands.{neither, not-true-false, over-climbs, climbs-over, HeldWithin, free-test}
-use Rattle.definitions.proofs.Commands.{Changed, Begun, Added, Refined, Removed, OneTransition, Started, HoldSet, Crowned, Does, does}
+use Rattle.definitions.proofs.Commands.{Changed, Begun, Added, Refined, Removed, OneTransition, Started, HoldSet, LeaveSet, Crowned, Does, does}
 use Rattle.definitions.proofs.Commands.{TakenRefine, TakenCrown, taken-add, taken-refine, taken-remove}
 use Rattle.definitions.proofs.Commands.{taken-arrow, taken-clear, taken-crown, taken-hold}
 use Rattle.definitions.proofs.Kept.{kept-down, CostInRange, edited-sound}
@@ -59,11 +59,6 @@ module _ {t : Tree} (s : Sound t) {n m : ℕ} (own : t .owner n ≡ some m) wher
 
 -- ---- a machine that is the same in two trees
 
--- what leaving a machine costs is the same
-leaving-same : (t u : Tree) (b : ℕ) → leaving u b ≡ leaving t b
-unfolding leaving
-leaving-same t u b = refl
-
 -- where a node's transition and the holds of its machine's nodes are the same, the transition that counts is
 counting-same : {t : Tree} → Sound t → (u : Tree) (n x : ℕ) {p : ℕ} → t .owner n ≡ some p → u .transition n x ≡ t .transition n x
     → ((k : ℕ) → t .owner k ≡ some p → u .hold k ≡ t .hold k) → counting u n x ≡ counting t n x
@@ -83,15 +78,16 @@ counting-same {t} s u n x {p} own same hold = ⊎-elim absent there (present (t 
 fields-same : {t : Tree} → Sound t → {u : Tree} {p : ℕ} → u .start p ≡ t .start p → ((k : ℕ) → t .owner k ≡ some p → u .owner k ≡ some p)
     → ((k : ℕ) → u .owner k ≡ some p → t .owner k ≡ some p) → ((k : ℕ) → t .owner k ≡ some p → u .below k ≡ t .below k)
     → ((k x : ℕ) → t .owner k ≡ some p → u .transition k x ≡ t .transition k x)
-    → ((k : ℕ) → t .owner k ≡ some p → u .hold k ≡ t .hold k) → SameMachine t u p
-fields-same {t} s {u} start owned owner below transition hold =
+    → ((k : ℕ) → t .owner k ≡ some p → u .hold k ≡ t .hold k)
+    → ((k b : ℕ) → t .owner k ≡ some p → t .below k ≡ some b → u .leave b ≡ t .leave b) → SameMachine t u p
+fields-same {t} s {u} start owned owner below transition hold leave =
     record {
       start = start;
       owned = owned;
       owner = owner;
       below = below;
       counting = λ n x own range. counting-same s u n x own (transition n x own) hold;
-      leaving = λ n b own down. leaving-same t u b;
+      leave = leave;
     }
 
 -- a function changed at a number, as far as its values are not the new one
@@ -142,7 +138,7 @@ add-spares {t} s {m} {n} {f} {u} st new law =
     (held-t, changed-back (law .owner) new h (s .holder-used q h held-t .1) up))
     (λ p g used off.
     fields-same s (law .start p) (λ k e. changed-kept (law .owner) new k e) (λ k e. changed-old (law .owner) k (not-owner s own off) e)
-    (λ k e. law .below k) (λ k x e. law .transition k x) (λ k e. law .hold k))
+    (λ k e. law .below k) (λ k x e. law .transition k x) (λ k e. law .hold k) (λ k b e down. law .leave b))
 
 -- refine: a machine that is not the new one and not over node n has neither the new node nor n
 refine-spares : {t : Tree} → Sound t → {n m f : ℕ} {u : Tree} {r q : Rows} → TakenRefine t n m f → Refined t n m f u r q
@@ -158,7 +154,7 @@ refine-spares {t} s {n} {m} {f} {u} taken law =
           let other : p ≡ m → ⊥ = eqb-false p m old in
           fields-same s (law .start .elsewhere p other) (λ k e. changed-kept (law .owner) (taken .first-new) k e)
           (λ k e. changed-old (law .owner) k other e) (λ k e. law .below .elsewhere k (not-node s own away e))
-          (λ k x e. law .transition k x) (λ k e. law .hold k);
+          (λ k x e. law .transition k x) (λ k e. law .hold k) (λ k b e down. law .leave b);
     }
   where
     over-up : (q p h : ℕ) → (eqb q m || over t q n) ≡ true → u .holder q ≡ some h → u .owner h ≡ some p → (q ≡ m) ⊎ (q ≡ m → ⊥)
@@ -182,7 +178,11 @@ remove-spares {t} s {n} {o} {u} own law =
     fields-same s (law .start-kept p (free p g used)) (λ k e. law .owner-kept k (left p g used off k e) ∙ e) (λ k e. was k p e)
     (λ k e. law .below-kept k (left p g used off k e))
     (λ k x e. law .transition-kept k x (left p g used off k e) (λ a has. not-node s own off (stays p k x e a has)))
-    (λ k e. law .hold-kept k (left p g used off k e)))
+    (λ k e. law .hold-kept k (left p g used off k e))
+    (λ k b e down.
+    law .leave-kept b
+    (λ w.
+    true-false (subst (λ (h : ℕ). within t n h ≡ true) (some-same (w .held) (s .below-held k b down)) (w .inside)) (left p g used off k e))))
   where
     -- a node in use after it was in use
     was : (k p : ℕ) → u .owner k ≡ some p → t .owner k ≡ some p
@@ -207,7 +207,7 @@ transition-spares {t} s {n} {x} {p} {o} {u} own law =
     over-spares s u own (λ q h p held up. (sym (law .holder q) ∙ held, sym (law .owner h) ∙ up))
     (λ p g used off.
     fields-same s (law .start p) (λ k e. law .owner k ∙ e) (λ k e. sym (law .owner k) ∙ e) (λ k e. law .below k)
-    (λ k y e. law .elsewhere k y (λ at. not-node s own off e (at .0))) (λ k e. law .hold k))
+    (λ k y e. law .elsewhere k y (λ at. not-node s own off e (at .0))) (λ k e. law .hold k) (λ k b e down. law .leave b))
 
 -- start: a machine that is not over node n is not its machine
 start-spares : {t : Tree} → Sound t → {n m : ℕ} {u : Tree} {r q : Rows} → t .owner n ≡ some m → Started t n m u r q
@@ -216,7 +216,7 @@ start-spares {t} s {n} {m} {u} own law =
     over-spares s u own (λ q h p held up. (sym (law .holder q) ∙ held, sym (law .owner h) ∙ up))
     (λ p g used off.
     fields-same s (law .start .elsewhere p (not-owner s own off)) (λ k e. law .owner k ∙ e) (λ k e. sym (law .owner k) ∙ e)
-    (λ k e. law .below k) (λ k x e. law .transition k x) (λ k e. law .hold k))
+    (λ k e. law .below k) (λ k x e. law .transition k x) (λ k e. law .hold k) (λ k b e down. law .leave b))
 
 -- hold: a machine that is not over node n does not have it
 hold-spares : {t : Tree} → Sound t → {n b p : ℕ} {u : Tree} {r q : Rows} → t .owner n ≡ some p → HoldSet t n b u r q
@@ -225,7 +225,20 @@ hold-spares {t} s {n} {b} {p} {u} own law =
     over-spares s u own (λ q h p held up. (sym (law .holder q) ∙ held, sym (law .owner h) ∙ up))
     (λ p g used off.
     fields-same s (law .start p) (λ k e. law .owner k ∙ e) (λ k e. sym (law .owner k) ∙ e) (λ k e. law .below k)
-    (λ k x e. law .transition k x) (λ k e. law .hold .elsewhere k (not-node s own off e)))
+    (λ k x e. law .transition k x) (λ k e. law .hold .elsewhere k (not-node s own off e)) (λ k b e down. law .leave b))
+
+-- leave: a machine that is not over m's start does not hold m
+leave-spares : {t : Tree} → Sound t → {m f c : ℕ} {u : Tree} {r q : Rows} → t .start m ≡ some f → LeaveSet t m f c u r q
+    → Spares t u (λ p. over t p f)
+leave-spares {t} s {m} {f} {c} {u} st law =
+    let own : t .owner f ≡ some m = s .start-owned m f st in
+    over-spares s u own (λ q h p held up. (sym (law .holder q) ∙ held, sym (law .owner h) ∙ up))
+    (λ p g used off.
+    fields-same s (law .start p) (λ k e. law .owner k ∙ e) (λ k e. sym (law .owner k) ∙ e) (λ k e. law .below k)
+    (λ k x e. law .transition k x) (λ k e. law .hold k)
+    (λ k b e down.
+    law .leave .elsewhere b
+    (λ same. true-false (over-parent s own m p (over-own s own) (parts-parent t m (rw same at (s .below-held k b down)) e)) off)))
 
 -- crown: nothing holds the new machine, and every other is as it was
 crown-spares : {t : Tree} → Sound t → {m n : ℕ} {u : Tree} {r q : Rows} → TakenCrown t m n → Crowned t m n u r q → Spares t u (λ p. eqb p m)
@@ -237,7 +250,7 @@ crown-spares {t} s {m} {n} {u} taken law =
           fields-same s (law .start .elsewhere p other) (λ k e. changed-kept (law .owner) (taken .node-new) k e)
           (λ k e. changed-old (law .owner) k other e)
           (λ k e. law .below .elsewhere k (λ same. none-some (ap (t .owner) same ∙ taken .node-new) e)) (λ k x e. law .transition k x)
-          (λ k e. law .hold k);
+          (λ k e. law .hold k) (λ k b e down. law .leave b);
     }
 
 -- ---- all edits
@@ -258,6 +271,9 @@ does-spares {t} s (Edit.clear n x) ok r q law = transition-spares s (taken-clear
 does-spares {t} s (Edit.start n) ok r q law = start-spares s (law .1) (law .2)
 does-spares {t} s (Edit.crown m n) ok r q law = crown-spares s (taken-crown t m n ok) law
 does-spares {t} s (Edit.hold n b) ok r q law = hold-spares s (taken-hold t n b ok .node-used .1) law
+does-spares {t} s (Edit.leave m c) ok r q law =
+    let (f, st, law) = law in
+    subst (λ (o : Option ℕ). Spares t (edited t (Edit.leave m c)) (λ p. option false (over t p) o)) (sym st) (leave-spares s st law)
 
 -- an edit that is taken leaves every machine that it does not touch as it was
 pub edit-spares : {t : Tree} → Sound t → (e : Edit) → refusal t (edit e) ≡ 0 → Spares t (edited t e) (touches t e)

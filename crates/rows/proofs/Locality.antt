@@ -7,7 +7,7 @@ use Prim.Native.Nat.{ℕ, zero, suc, _<_}
 use Rattle.definitions.specs.Basics.{iterate}
 use Rattle.definitions.specs.Limits.{commands}
 use Rattle.definitions.specs.Tree.{Tree, Sound}
-use Rattle.definitions.specs.Step.{counting, leaving}
+use Rattle.definitions.specs.Step.{counting}
 use Rattle.definitions.specs.Sheet.{Rows}
 use Rattle.definitions.specs.Truth.{nodeExit, move}
 use Rattle.definitions.proofs.Options.{bind-some, none-some, some-same, equal-or-not}
@@ -22,7 +22,7 @@ pub record SameMachine (t u : Tree) (m : ℕ) : Type 0 where
   pub owner : (n : ℕ) → u .owner n ≡ some m → t .owner n ≡ some m
   pub below : (n : ℕ) → t .owner n ≡ some m → u .below n ≡ t .below n
   pub counting : (n x : ℕ) → t .owner n ≡ some m → x < commands → counting u n x ≡ counting t n x
-  pub leaving : (n b : ℕ) → t .owner n ≡ some m → t .below n ≡ some b → leaving u b ≡ leaving t b
+  pub leave : (n b : ℕ) → t .owner n ≡ some m → t .below n ≡ some b → u .leave b ≡ t .leave b
 
 -- and the machines just below its nodes have the same exit costs in both rows
 pub record SameMoves (t u : Tree) (r q : Rows) (m : ℕ) : Type 0 where
@@ -47,7 +47,7 @@ same-machine t m =
       owner = λ n own. own;
       below = λ n own. refl;
       counting = λ n x own range. refl;
-      leaving = λ n b own down. refl;
+      leave = λ n b own down. refl;
     }
 
 -- ---- the moves of a machine
@@ -57,7 +57,7 @@ module _ {t u : Tree} {r q : Rows} {m : ℕ} (same : SameMoves t u r q m) where
   exit-by : (n x : ℕ) → t .owner n ≡ some m → x < commands → (o : Option ℕ) → t .below n ≡ o → nodeExit u q n x ≡ nodeExit t r n x
   unfolding nodeExit
   exit-by n x own range none e = rw (same .machine .below n own, e)
-  exit-by n x own range (some b) e = rw (same .machine .below n own, e, same .below n b x own e range, same .machine .leaving n b own e)
+  exit-by n x own range (some b) e = rw (same .machine .below n own, e, same .below n b x own e range, same .machine .leave n b own e)
 
   -- the nodes of the machine are left at the same cost
   pub same-exit : (n x : ℕ) → t .owner n ≡ some m → x < commands → nodeExit u q n x ≡ nodeExit t r n x

@@ -6,24 +6,26 @@ use mathlib.Core.Option.{some}
 use Prim.Native.Nat.{ℕ, suc, _+_, _<_}
 use native.Mathlib.Omega.{arith}
 use lib.ListN.{length}
-use Rattle.definitions.specs.Limits.{nodes, commands, levels}
+use Rattle.definitions.specs.Limits.{machines, nodes, commands, levels}
 use Rattle.definitions.specs.Tree.{Tree, Sound}
 use Rattle.definitions.specs.Sheet.{Rows}
-use Rattle.definitions.specs.Stream.{Command, edit, begin, add, refine, arrow, hold}
+use Rattle.definitions.specs.Stream.{Command, edit, begin, add, refine, arrow, hold, leave}
 use Rattle.definitions.specs.Edit.{single, edited}
 use Rattle.definitions.specs.Load.{Outcome, after, load, RowsAfterAll}
 use Rattle.definitions.specs.Open.{openRows}
-use Rattle.definitions.specs.Write.{pair, writtenAdd, writtenRefine, writtenArrow, writtenHold, written}
+use Rattle.definitions.specs.Write.{pair, writtenAdd, writtenRefine, writtenArrow, writtenHold, writtenLeave, written}
 use Rattle.definitions.proofs.Words.{start-range}
-use Rattle.definitions.proofs.Commands.{begin-taken, add-taken, refine-taken, arrow-taken, hold-taken}
-use Rattle.definitions.proofs.Spelling.{spells-begin, spells-add, spells-refine, spells-arrow, spells-hold, whole, TakenAs, load-step}
+use Rattle.definitions.proofs.Commands.{begin-taken, add-taken, refine-taken, arrow-taken, hold-taken, leave-taken}
+use Rattle.definitions.proofs.Spelling.{spells-begin, spells-add, spells-refine, spells-arrow, spells-hold, spells-leave, whole, TakenAs, load-step}
 use Rattle.samebook.proofs.Taken.{Takes, done, takes-one, takes-both, takes-load, takes-rows}
-use Rattle.samebook.proofs.Clock.{addAt, refineAt, arrowAt, holdAt, afterBegin}
+use Rattle.samebook.proofs.Clock.{addAt, refineAt, arrowAt, holdAt, leaveAt, afterBegin}
 use Rattle.samebook.proofs.Grown.{grown, grown-begin, grown-end, add-none, add-may, add-done}
 use Rattle.samebook.proofs.Grown.{refine-none, refine-may, refine-done, arrow-none, arrow-may, arrow-done, hold-none, hold-may, hold-done}
-use Rattle.samebook.proofs.Marks.{begin-opens, add-opens, refine-opens, arrow-opens, hold-opens}
+use Rattle.samebook.proofs.Grown.{leave-none, leave-may, leave-done}
+use Rattle.samebook.proofs.Marks.{begin-opens, add-opens, refine-opens, arrow-opens, hold-opens, leave-opens}
 use Rattle.samebook.proofs.Written.{AddCase, no-add, one-add, add-case, RefineCase, no-refine, one-refine, refine-case}
 use Rattle.samebook.proofs.Written.{ArrowCase, no-arrow, one-arrow, arrow-case, HoldCase, no-hold, one-hold, hold-case}
+use Rattle.samebook.proofs.Written.{LeaveCase, no-leave, one-leave, leave-case}
 use Rattle.samebook.proofs.Written.{body, written-parts, Piecewise, body-all}
 
 -- the bytes between two places of the stream lead from the tree before the one to the tree before the other
@@ -90,11 +92,23 @@ leads-hold {t} s n small = go (hold-case s n)
               (hold-opens (grown t (holdAt n)) n 1) (hold-done s n small one),
         )
 
+leads-leave : {t : Tree} → Sound t → (m : ℕ) → m < machines → Leads t (leaveAt m) (writtenLeave t m) (suc (leaveAt m))
+leads-leave {t} s m small = go (leave-case t m)
+  where
+    go : LeaveCase t m → Leads t (leaveAt m) (writtenLeave t m) (suc (leaveAt m))
+    go (no-leave empty free) = leads-none t (leaveAt m) empty (leave-none s m small free)
+    go (one-leave bytes charged) =
+        rw bytes (
+          edit (leave m (t .leave m)) ∷ [],
+          takes-one (record { spells = spells-leave m (t .leave m); taken = leave-taken (t .leave m) (leave-may s m small charged) })
+              (leave-opens (grown t (leaveAt m)) m (t .leave m)) (leave-done s m small charged),
+        )
+
 -- so what follows begin leads from begin's one machine to the whole tree
 pub body-takes : {t : Tree} → Sound t → {f : ℕ} → t .start (t .root) ≡ some f
     → (cs : List Command) × Takes (single (t .root) f) (body t) cs t
 body-takes {t} s {f} first =
-    let (cs, way) = body-all pieces t (leads-add s) (leads-refine s) (leads-arrow s) (leads-hold s) in
+    let (cs, way) = body-all pieces t (leads-add s) (leads-refine s) (leads-arrow s) (leads-hold s) (leads-leave s) in
     (cs, rw (grown-begin s f first) (subst (Takes (grown t afterBegin) (body t) cs) (grown-end s) way))
   where
     pieces : Piecewise (Leads t)

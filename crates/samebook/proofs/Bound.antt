@@ -1,6 +1,7 @@
--- Write's stream for a sound tree has at most 34,812 bytes: an add brings a node for its 4 bytes, a refine a node and a machine for its 6, a
--- hold a held node for its 4; there are at most 4,096 transitions of 8 bytes and 256 nodes, and those that are held and those that are starts,
--- one for each machine, are different ones. So it has at most 34,814 less 2 for each machine. Assumes nothing.
+-- Write's stream for a sound tree has at most 34,938 bytes: an add brings a node for its 4 bytes, a refine a node and a machine for its 6, a
+-- hold a held node and a leave a charged machine for their 4; there are at most 4,096 transitions of 8 bytes, 256 nodes and 64 machines, of which the
+-- root is not charged, and the nodes that are held and those that are starts, one for each machine, are different ones. So it has at most 34,810 and
+-- 2 for each machine. Assumes nothing.
 use mathlib.Core.Path.{_≡_, refl, ap}
 use mathlib.Core.Logic.{⊎-elim}
 use mathlib.Core.Bool.{Bool, true, false, cond, not, _&&_}
@@ -9,29 +10,37 @@ use mathlib.Core.List.{List, []}
 use Prim.Native.Nat.{ℕ, zero, suc, _+_, _*_, _-_, _≤_, _<_}
 use native.Mathlib.Omega.{arith}
 use lib.Dec.{eqb, ltb}
-use borrow.Author.Tests.{ltb-true, lt-ltb, le-ltb, eqb-true, eq-eqb}
+use borrow.Author.Tests.{ltb-true, lt-ltb, le-ltb, eqb-true, eq-eqb, ne-eqb}
 use lib.ListN.{length, length-append}
 use Rattle.definitions.specs.Basics.{option, isSome, isAt, put, countBelow}
 use Rattle.definitions.specs.Limits.{machines, nodes, commands, levels}
 use Rattle.definitions.specs.Tree.{Tree, Sound, usedMachine, usedNode, onHold}
-use Rattle.definitions.specs.Stream.{add, refine, arrow, hold}
+use Rattle.definitions.specs.Stream.{add, refine, arrow, hold, leave}
 use Rattle.definitions.specs.Edit.{single, withTransition, edited}
-use Rattle.definitions.specs.Write.{writtenAdd, writtenRefine, writtenArrow, writtenHold}
+use Rattle.definitions.specs.Write.{writtenAdd, writtenRefine, writtenArrow, writtenHold, writtenLeave}
 use Rattle.definitions.specs.Demand.{WriteBound}
 use Rattle.definitions.proofs.Options.{present, true-false, and-true, put-same, isAt-true}
 use Rattle.definitions.proofs.Words.{start-range}
 use Rattle.definitions.proofs.Simple.{count-none, count-pass, count-skip, count-mono, count-more, count-limit}
 use Rattle.definitions.proofs.Commands.{TakenAdd, TakenRefine, not-true-false}
-use Rattle.samebook.proofs.Clock.{addAt, refineAt, arrowAt, holdAt, afterBegin, afterLevels, afterArrows, afterAll}
+use Rattle.samebook.proofs.Clock.{addAt, refineAt, arrowAt, holdAt, leaveAt, afterBegin, afterLevels, afterArrows, afterAll}
 use Rattle.samebook.proofs.Grown.{grown, grown-begin, grown-end, add-none, add-may, add-done}
 use Rattle.samebook.proofs.Grown.{refine-none, refine-may, refine-done, arrow-none, arrow-done, hold-none, hold-late, hold-done}
+use Rattle.samebook.proofs.Grown.{leave-none, leave-late, leave-done}
 use Rattle.samebook.proofs.Written.{AddCase, no-add, one-add, add-case, RefineCase, no-refine, one-refine, refine-case}
 use Rattle.samebook.proofs.Written.{ArrowCase, no-arrow, one-arrow, arrow-case, HoldCase, no-hold, one-hold, hold-case}
+use Rattle.samebook.proofs.Written.{LeaveCase, no-leave, one-leave, leave-case}
 use Rattle.samebook.proofs.Written.{body, written-parts, Piecewise, body-all}
 
--- the bytes that a tree's nodes, machines and holds may cost
+-- whether leaving a machine costs something
+abbrev charged : Tree → ℕ → Bool
+charged u m = not (eqb (u .leave m) 0)
+
+-- the bytes that a tree's nodes, machines, holds and leaving costs may cost
 unfoldable weight : Tree → ℕ
-weight u = 4 * countBelow nodes (usedNode u) + 2 * countBelow machines (usedMachine u) + 4 * countBelow nodes (onHold u)
+weight u =
+    4 * countBelow nodes (usedNode u) + 2 * countBelow machines (usedMachine u) + 4 * countBelow nodes (onHold u)
+    + 4 * countBelow machines (charged u)
 
 -- what is counted after a value is put where there was none: one more
 put-counts : (k : ℕ) (f : ℕ → Option ℕ) (n v : ℕ) → n < k → f n ≡ none
@@ -76,6 +85,20 @@ hold-weight u {n} small free =
     kept : (b : Bool) (h : ℕ) → eqb h 1 ≡ true → eqb (cond b 1 h) 1 ≡ true
     kept true h e = refl
     kept false h e = e
+
+-- a leave brings a charged machine
+leave-weight : (u : Tree) {m c : ℕ} → m < machines → u .leave m ≡ 0 → (c ≡ 0 → ⊥) → 4 + weight u ≤ weight (edited u (leave m c))
+unfolding weight edited
+leave-weight u {m} {c} small free costs =
+    omega (
+      arith,
+      count-more machines (charged u) (λ p. not (eqb (put (u .leave) m c p) 0)) (λ p. kept (eqb p m) (u .leave p)) m small (rw free)
+          (rw (put-same (u .leave) m c, ne-eqb c 0 costs)),
+    )
+  where
+    kept : (b : Bool) (d : ℕ) → not (eqb d 0) ≡ true → not (eqb (cond b c d) 0) ≡ true
+    kept true d e = rw (ne-eqb c 0 costs)
+    kept false d e = e
 
 -- begin's machine and node
 single-weight : (m n : ℕ) → m < machines → n < nodes → 6 ≤ weight (single m n)
@@ -148,8 +171,13 @@ module _ {t : Tree} (s : Sound t) where
       free true m off = rw off
       free false m off = refl
 
-  -- so a sound tree weighs no more than one with all nodes, all but one of them held
-  weight-limit : weight t ≤ 2046
+  -- a charged machine is in use, and the root is not charged
+  charged-used : (m : ℕ) → charged t m ≡ true → usedMachine t m ≡ true
+  charged-used m e =
+      ⊎-elim (λ unused. absurd (true-false e (rw (s .leave-used m unused)))) (λ used. rw (used .1)) (present (t .start m))
+
+  -- so a sound tree weighs no more than one with all nodes and machines, all nodes but the starts held and all machines but the root charged
+  weight-limit : weight t ≤ 2172
   unfolding weight
   weight-limit =
       let (f, root) = s .root-used in
@@ -158,12 +186,13 @@ module _ {t : Tree} (s : Sound t) where
         count-limit nodes (usedNode t),
         starts-counted machines,
         count-mono nodes (onHold t) (others t machines) held-others,
-        count-more machines (λ m. false) (usedMachine t) (λ i e. absurd (true-false e refl)) (t .root) (s .machine-range (t .root) f root) refl (rw root),
+        count-limit machines (usedMachine t),
+        count-more machines (charged t) (usedMachine t) charged-used (t .root) (s .machine-range (t .root) f root) (rw (s .leave-root)) (rw root),
       )
 
 -- ---- the whole stream
 
--- what may have been spent before a place: on the nodes, machines and holds that are there, and 8 bytes on every transition passed
+-- what may have been spent before a place: on the nodes, machines, holds and leaving costs that are there, and 8 bytes on every transition passed
 abbrev spent : Tree → ℕ → ℕ
 spent t T = weight (grown t T) + 8 * ((afterArrows - afterLevels) - (afterArrows - T))
 
@@ -231,12 +260,25 @@ pays-hold {t} s n small = go (hold-case s n)
           ap weight (hold-done s n small one),
         )
 
+pays-leave : {t : Tree} → Sound t → (m : ℕ) → m < machines → Pays t (leaveAt m) (writtenLeave t m) (suc (leaveAt m))
+pays-leave {t} s m small = go (leave-case t m)
+  where
+    go : LeaveCase t m → Pays t (leaveAt m) (writtenLeave t m) (suc (leaveAt m))
+    go (no-leave empty free) = pays-none t (leaveAt m) empty (leave-none s m small free)
+    go (one-leave bytes costs) =
+        omega (
+          arith,
+          ap length bytes,
+          leave-weight (grown t (leaveAt m)) small (leave-late t m) costs,
+          ap weight (leave-done s m small costs),
+        )
+
 -- Write's stream is no longer than the longest stream
 pub write-bound : WriteBound
 write-bound t s =
     let (f, first) = s .root-used in
     let (machine, node) = start-range t s (t .root) f first in
-    let paid : Pays t afterBegin (body t) afterAll = body-all pieces t (pays-add s) (pays-refine s) (pays-arrow s) (pays-hold s) in
+    let paid : Pays t afterBegin (body t) afterAll = body-all pieces t (pays-add s) (pays-refine s) (pays-arrow s) (pays-hold s) (pays-leave s) in
     omega (
       arith,
       ap length (written-parts t first),

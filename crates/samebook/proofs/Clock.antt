@@ -1,5 +1,6 @@
 -- The place of each command in the stream that Write gives, as one number: 512 numbers for each level, 256 for its nodes and then 256
--- for its refined nodes, after the eight levels 16 numbers for each node's transitions, and then one for each node's hold. Assumes nothing.
+-- for its refined nodes, after the eight levels 16 numbers for each node's transitions, then one for each node's hold, and last one for each machine's
+-- leaving cost. Assumes nothing.
 use mathlib.Core.Path.{_≡_, refl, ap, _∙_}
 use mathlib.Core.Logic.{_⊎_, inl, inr, ⊎-elim}
 use mathlib.Core.Bool.{false, cond}
@@ -16,7 +17,7 @@ use Rattle.definitions.proofs.Words.{holder-range, below-range}
 use Rattle.samebook.proofs.Levels.{root-or-held, level-range}
 
 -- the places of node n among the adds and among the refines of level l, of node n and command x among the arrows,
--- and of node n among the holds
+-- of node n among the holds, and of machine m among the leaving costs
 abbrev pub addAt : ℕ → ℕ → ℕ
 addAt l n = l * 512 + n
 
@@ -29,7 +30,10 @@ arrowAt n x = 4608 + n * 16 + x
 abbrev pub holdAt : ℕ → ℕ
 holdAt n = 8704 + n
 
--- the places after begin, after the eight levels, after the arrows, and after all
+abbrev pub leaveAt : ℕ → ℕ
+leaveAt m = 8960 + m
+
+-- the places after begin, after the eight levels, after the arrows, after the holds, and after all
 abbrev pub afterBegin : ℕ
 afterBegin = 512
 
@@ -39,8 +43,11 @@ afterLevels = 4608
 abbrev pub afterArrows : ℕ
 afterArrows = 8704
 
+abbrev pub afterHolds : ℕ
+afterHolds = 8960
+
 abbrev pub afterAll : ℕ
-afterAll = 8960
+afterAll = 9024
 
 -- the place of the add and of the refine of node n, whether they are in the stream or not
 unfoldable pub addPlace : Tree → ℕ → ℕ

@@ -10,16 +10,16 @@ use native.Mathlib.Omega.{arith}
 use lib.Dec.{ltb}
 use borrow.Author.Tests.{lt-ltb, le-ltb, eq-eqb, ne-eqb}
 use Rattle.definitions.specs.Basics.{put}
-use Rattle.definitions.specs.Limits.{nodes, commands, levels}
+use Rattle.definitions.specs.Limits.{machines, nodes, commands, levels}
 use Rattle.definitions.specs.Tree.{Tree, Transition, withNodes, Sound, above, level}
-use Rattle.definitions.specs.Stream.{add, refine, arrow, hold}
+use Rattle.definitions.specs.Stream.{add, refine, arrow, hold, leave}
 use Rattle.definitions.specs.Edit.{single, withTransition, edited}
 use Rattle.definitions.proofs.Options.{bind-some, present, none-some, some-same, equal-or-not}
 use Rattle.definitions.proofs.Words.{same-tree, owner-range, start-range, target-range, unused-hold}
 use Rattle.definitions.proofs.Path.{root-holder}
-use Rattle.definitions.proofs.Commands.{TakenAdd, TakenRefine, TakenArrow, TakenHold}
+use Rattle.definitions.proofs.Commands.{TakenAdd, TakenRefine, TakenArrow, TakenHold, TakenLeave}
 use Rattle.samebook.proofs.Levels.{level-refined, level-less}
-use Rattle.samebook.proofs.Clock.{addAt, refineAt, arrowAt, holdAt, afterBegin, afterAll, addPlace, refinePlace, machinePlace, nodePlace}
+use Rattle.samebook.proofs.Clock.{addAt, refineAt, arrowAt, holdAt, leaveAt, afterBegin, afterAll, addPlace, refinePlace, machinePlace, nodePlace}
 use Rattle.samebook.proofs.Clock.{place-free, place-held, place-start, place-other, machine-early, node-early}
 use Rattle.samebook.proofs.Clock.{machine-late, node-late, refine-late, machine-all, node-all, refine-all, arrow-at-arrow}
 use Rattle.samebook.proofs.Clock.{node-at-add, machine-at-add, refine-at-add, node-at-refine, machine-at-refine, refine-at-refine}
@@ -109,28 +109,30 @@ grown t T =
       holder = λ m. passed none T (machinePlace t m) (t .holder m);
       transition = λ n x. passed none T (arrowAt n x) (t .transition n x);
       hold = λ n. passed 0 T (holdAt n) (t .hold n);
+      leave = λ m. passed 0 T (leaveAt m) (t .leave m);
     }
 
--- no refinement and no machine comes at a place: the tree stays, but for the nodes, the transitions and the holds that come
+-- no refinement, no machine and no leaving cost comes at a place: the tree stays, but for the nodes, the transitions and the holds that come
 grown-next : {t : Tree} → Sound t → (T : ℕ) → ((n b : ℕ) → t .below n ≡ some b → refinePlace t n ≡ T → ⊥)
-    → ((m f : ℕ) → t .start m ≡ some f → machinePlace t m ≡ T → ⊥) → {owner : ℕ → Option ℕ} {transition : ℕ → ℕ → Option Transition}
+    → ((m f : ℕ) → t .start m ≡ some f → machinePlace t m ≡ T → ⊥) → ((m : ℕ) → (t .leave m ≡ 0) ⊎ (leaveAt m ≡ T → ⊥))
+    → {owner : ℕ → Option ℕ} {transition : ℕ → ℕ → Option Transition}
     → {hold : ℕ → ℕ} → ((n : ℕ) → owner n ≡ grown t (suc T) .owner n) → ((n x : ℕ) → transition n x ≡ grown t (suc T) .transition n x)
     → ((n : ℕ) → hold n ≡ grown t (suc T) .hold n) → withNodes (grown t T) owner (grown t T .below) transition hold ≡ grown t (suc T)
 unfolding grown
-grown-next {t} s T refined machine owner transition holds =
+grown-next {t} s T refined machine left owner transition holds =
     same-tree _ _ refl owner (λ n. passed-still none T (refinePlace t n) (t .below n) (given (refined n)))
     (λ m. passed-still none T (machinePlace t m) (t .start m) (given (machine m)))
     (λ m. passed-still none T (machinePlace t m) (t .holder m) (given λ h e. let (f, used) = s .held-used m h e in machine m f used))
-    transition holds
+    transition holds (λ m. passed-still 0 T (leaveAt m) (t .leave m) (left m))
 
 -- nothing comes at a place: the tree stays
 grown-still : {t : Tree} → Sound t → (T : ℕ) → ((n m : ℕ) → t .owner n ≡ some m → nodePlace t n ≡ T → ⊥)
     → ((n b : ℕ) → t .below n ≡ some b → refinePlace t n ≡ T → ⊥) → ((m f : ℕ) → t .start m ≡ some f → machinePlace t m ≡ T → ⊥)
     → ((n x : ℕ) (a : Transition) → t .transition n x ≡ some a → arrowAt n x ≡ T → ⊥)
-    → ((n : ℕ) → (t .hold n ≡ 0) ⊎ (holdAt n ≡ T → ⊥)) → grown t T ≡ grown t (suc T)
+    → ((n : ℕ) → (t .hold n ≡ 0) ⊎ (holdAt n ≡ T → ⊥)) → ((m : ℕ) → (t .leave m ≡ 0) ⊎ (leaveAt m ≡ T → ⊥)) → grown t T ≡ grown t (suc T)
 unfolding grown
-grown-still {t} s T node refined machine drawn held =
-    grown-next s T refined machine (λ n. passed-still none T (nodePlace t n) (t .owner n) (given (node n)))
+grown-still {t} s T node refined machine drawn held left =
+    grown-next s T refined machine left (λ n. passed-still none T (nodePlace t n) (t .owner n) (given (node n)))
     (λ n x. passed-still none T (arrowAt n x) (t .transition n x) (given (drawn n x)))
     (λ n. passed-still 0 T (holdAt n) (t .hold n) (held n))
 
@@ -162,6 +164,7 @@ grown-begin {t} s f first =
     (given λ h e. machine-late s (s .held-used m h e .1) (λ same. root-holder s same e))))
     (λ n x. sym (passed-late none afterBegin (arrowAt n x) (t .transition n x) (inr (omega arith))))
     (λ n. sym (passed-late 0 afterBegin (holdAt n) (t .hold n) (inr (omega arith))))
+    (λ m. sym (passed-late 0 afterBegin (leaveAt m) (t .leave m) (inr (omega arith))))
 
 -- after the last place there is the whole tree
 pub grown-end : {t : Tree} → Sound t → grown t afterAll ≡ t
@@ -178,11 +181,14 @@ grown-end {t} s =
     (λ n.
     passed-all 0 afterAll (holdAt n) (t .hold n)
     (⊎-elim (λ unused. inl (unused-hold t s n unused)) (λ own. inr (omega (arith, s .node-range n (own .0) (own .1)))) (present (t .owner n))))
+    (λ m.
+    passed-all 0 afterAll (leaveAt m) (t .leave m)
+    (⊎-elim (λ unused. inl (s .leave-used m unused)) (λ used. inr (omega (arith, s .machine-range m (used .0) (used .1)))) (present (t .start m))))
 
 -- ---- the adds
 
 module _ {t : Tree} (s : Sound t) (l i : ℕ) (high : l < levels) (small : i < nodes) where
-  -- at the place of node i among the adds of level l + 1 no refinement, machine, transition or hold comes
+  -- at the place of node i among the adds of level l + 1 no refinement, machine, transition, hold or leaving cost comes
   refine-not : (n b : ℕ) → t .below n ≡ some b → refinePlace t n ≡ addAt (suc l) i → ⊥
   refine-not n b holds here = refine-at-add s l i small holds here
 
@@ -195,6 +201,9 @@ module _ {t : Tree} (s : Sound t) (l i : ℕ) (high : l < levels) (small : i < n
   hold-not : (n : ℕ) → holdAt n ≡ addAt (suc l) i → ⊥
   hold-not n here = omega arith
 
+  leave-not : (m : ℕ) → leaveAt m ≡ addAt (suc l) i → ⊥
+  leave-not m here = omega arith
+
   -- node i is not added at this level: the tree stays
   pub add-none : ((m : ℕ) → t .owner i ≡ some m → (t .start m ≡ some i → ⊥) → level t i ≡ suc l → ⊥)
       → grown t (addAt (suc l) i) ≡ grown t (suc (addAt (suc l) i))
@@ -203,7 +212,7 @@ module _ {t : Tree} (s : Sound t) (l i : ℕ) (high : l < levels) (small : i < n
       (λ n m own here.
       let (other, same, at) = node-at-add s l i small own here in
       not-here m (rw same at own) (rw same at other) (rw same at at))
-      refine-not (λ m f used. machine-not m) (λ n x a e. arrow-not n x) (λ n. inr (hold-not n))
+      refine-not (λ m f used. machine-not m) (λ n x a e. arrow-not n x) (λ n. inr (hold-not n)) (λ m. inr (leave-not m))
 
   module _ {m : ℕ} (own : t .owner i ≡ some m) (other : t .start m ≡ some i → ⊥) (at : level t i ≡ suc l) where
     -- the node's place
@@ -228,7 +237,7 @@ module _ {t : Tree} (s : Sound t) (l i : ℕ) (high : l < levels) (small : i < n
     pub add-done : edited (grown t (addAt (suc l) i)) (add m i) ≡ grown t (suc (addAt (suc l) i))
     unfolding grown edited
     add-done =
-        grown-next s (addAt (suc l) i) refine-not (λ p f used. machine-not p)
+        grown-next s (addAt (suc l) i) refine-not (λ p f used. machine-not p) (λ p. inr (leave-not p))
         (passed-put none (addAt (suc l) i) (nodePlace t) (t .owner) i (some m) own add-here
         (λ k. given λ a e here. node-at-add s l i small e here .1))
         (λ n x. passed-still none (addAt (suc l) i) (arrowAt n x) (t .transition n x) (inr (arrow-not n x)))
@@ -237,12 +246,15 @@ module _ {t : Tree} (s : Sound t) (l i : ℕ) (high : l < levels) (small : i < n
 -- ---- the refines
 
 module _ {t : Tree} (s : Sound t) (l i : ℕ) (high : l < levels) (small : i < nodes) where
-  -- at the place of node i among the refines of level l + 1 no transition and no hold comes
+  -- at the place of node i among the refines of level l + 1 no transition, hold or leaving cost comes
   no-arrow : (n x : ℕ) → arrowAt n x ≡ refineAt (suc l) i → ⊥
   no-arrow n x here = omega arith
 
   no-hold : (n : ℕ) → holdAt n ≡ refineAt (suc l) i → ⊥
   no-hold n here = omega arith
+
+  no-leave : (m : ℕ) → leaveAt m ≡ refineAt (suc l) i → ⊥
+  no-leave m here = omega arith
 
   -- node i is not refined at this level: the tree stays
   pub refine-none : ((b : ℕ) → t .below i ≡ some b → level t i ≡ suc l → ⊥)
@@ -258,7 +270,7 @@ module _ {t : Tree} (s : Sound t) (l i : ℕ) (high : l < levels) (small : i < n
       (λ m f used here.
       let (held, at) = machine-at-refine s l i small here in
       not-here m (s .held-below m i held) at)
-      (λ n x a e. no-arrow n x) (λ n. inr (no-hold n))
+      (λ n x a e. no-arrow n x) (λ n. inr (no-hold n)) (λ m. inr (no-leave m))
 
   module _ {b f : ℕ} (holds : t .below i ≡ some b) (first : t .start b ≡ some f) (at : level t i ≡ suc l) where
     -- node i holds no other machine
@@ -313,11 +325,12 @@ module _ {t : Tree} (s : Sound t) (l i : ℕ) (high : l < levels) (small : i < n
         (λ k. inr (λ here. only-held (machine-at-refine s l i small here .0))))
         (λ n x. passed-still none (refineAt (suc l) i) (arrowAt n x) (t .transition n x) (inr (no-arrow n x)))
         (λ n. passed-still 0 (refineAt (suc l) i) (holdAt n) (t .hold n) (inr (no-hold n)))
+        (λ m. passed-still 0 (refineAt (suc l) i) (leaveAt m) (t .leave m) (inr (no-leave m)))
 
 -- ---- the arrows
 
 module _ {t : Tree} (s : Sound t) (n x : ℕ) (small : n < nodes) (known : x < commands) where
-  -- at the place of node n and command x among the arrows no node, refinement, machine or hold comes
+  -- at the place of node n and command x among the arrows no node, refinement, machine, hold or leaving cost comes
   node-past : (k m : ℕ) → t .owner k ≡ some m → nodePlace t k ≡ arrowAt n x → ⊥
   node-past k m own here = omega (arith, node-all s own)
 
@@ -330,6 +343,9 @@ module _ {t : Tree} (s : Sound t) (n x : ℕ) (small : n < nodes) (known : x < c
   hold-past : (k : ℕ) → holdAt k ≡ arrowAt n x → ⊥
   hold-past k here = omega arith
 
+  leave-past : (m : ℕ) → leaveAt m ≡ arrowAt n x → ⊥
+  leave-past m here = omega arith
+
   -- the node has no transition for the command: the tree stays
   pub arrow-none : t .transition n x ≡ none → grown t (arrowAt n x) ≡ grown t (suc (arrowAt n x))
   arrow-none free =
@@ -337,7 +353,7 @@ module _ {t : Tree} (s : Sound t) (n x : ℕ) (small : n < nodes) (known : x < c
       (λ k y a e here.
       let (node, command) = arrow-at-arrow n x k y known (s .transition-range k y a e .0) here in
       none-some free (rw (node, command) at e))
-      (λ k. inr (hold-past k))
+      (λ k. inr (hold-past k)) (λ m. inr (leave-past m))
 
   module _ {a : Transition} (drawn : t .transition n x ≡ some a) where
     -- it is taken
@@ -377,14 +393,14 @@ module _ {t : Tree} (s : Sound t) (n x : ℕ) (small : n < nodes) (known : x < c
     pub arrow-done : edited (grown t (arrowAt n x)) (arrow n x (a .target) (a .cost)) ≡ grown t (suc (arrowAt n x))
     unfolding grown edited withTransition
     arrow-done =
-        grown-next s (arrowAt n x) refine-past machine-past
+        grown-next s (arrowAt n x) refine-past machine-past (λ m. inr (leave-past m))
         (λ k. passed-still none (arrowAt n x) (nodePlace t k) (t .owner k) (given (node-past k))) arrow-put
         (λ k. passed-still 0 (arrowAt n x) (holdAt k) (t .hold k) (inr (hold-past k)))
 
 -- ---- the holds
 
 module _ {t : Tree} (s : Sound t) (n : ℕ) (small : n < nodes) where
-  -- at the place of node n among the holds no node, refinement, machine or transition comes
+  -- at the place of node n among the holds no node, refinement, machine, transition or leaving cost comes
   node-gone : (k m : ℕ) → t .owner k ≡ some m → nodePlace t k ≡ holdAt n → ⊥
   node-gone k m own here = omega (arith, node-all s own)
 
@@ -397,11 +413,15 @@ module _ {t : Tree} (s : Sound t) (n : ℕ) (small : n < nodes) where
   arrow-gone : (k x : ℕ) (a : Transition) → t .transition k x ≡ some a → arrowAt k x ≡ holdAt n → ⊥
   arrow-gone k x a e here = omega (arith, target-range t s k x a e, s .transition-range k x a e)
 
+  leave-gone : (m : ℕ) → leaveAt m ≡ holdAt n → ⊥
+  leave-gone m here = omega arith
+
   -- the node is not held: the tree stays
   pub hold-none : t .hold n ≡ 0 → grown t (holdAt n) ≡ grown t (suc (holdAt n))
   hold-none free =
       grown-still s (holdAt n) node-gone refine-gone machine-gone arrow-gone
       (λ k. ⊎-elim (λ same. inl (ap (t .hold) same ∙ free)) (λ other. inr (λ here. other (omega arith))) (equal-or-not k n))
+      (λ m. inr (leave-gone m))
 
   module _ (one : t .hold n ≡ 1) where
     -- it is taken
@@ -422,7 +442,7 @@ module _ {t : Tree} (s : Sound t) (n : ℕ) (small : n < nodes) where
     pub hold-done : edited (grown t (holdAt n)) (hold n 1) ≡ grown t (suc (holdAt n))
     unfolding grown edited
     hold-done =
-        grown-next s (holdAt n) refine-gone machine-gone
+        grown-next s (holdAt n) refine-gone machine-gone (λ m. inr (leave-gone m))
         (λ k. passed-still none (holdAt n) (nodePlace t k) (t .owner k) (given (node-gone k)))
         (λ k x. passed-still none (holdAt n) (arrowAt k x) (t .transition k x) (given (arrow-gone k x)))
         (passed-put 0 (holdAt n) holdAt (t .hold) n 1 one refl (λ k. inr (λ here. omega arith)))
@@ -431,3 +451,63 @@ module _ {t : Tree} (s : Sound t) (n : ℕ) (small : n < nodes) where
 pub hold-late : (t : Tree) (n : ℕ) → grown t (holdAt n) .hold n ≡ 0
 unfolding grown
 hold-late t n = passed-out 0 (holdAt n) (holdAt n) (t .hold n) (omega arith)
+
+-- ---- the leaving costs
+
+module _ {t : Tree} (s : Sound t) (m : ℕ) (small : m < machines) where
+  -- at the place of machine m among the leaving costs nothing else comes
+  node-over : (k p : ℕ) → t .owner k ≡ some p → nodePlace t k ≡ leaveAt m → ⊥
+  node-over k p own here = omega (arith, node-all s own)
+
+  refine-over : (k b : ℕ) → t .below k ≡ some b → refinePlace t k ≡ leaveAt m → ⊥
+  refine-over k b holds here = omega (arith, refine-all s holds)
+
+  machine-over : (p f : ℕ) → t .start p ≡ some f → machinePlace t p ≡ leaveAt m → ⊥
+  machine-over p f used here = omega (arith, machine-all s used)
+
+  arrow-over : (k x : ℕ) (a : Transition) → t .transition k x ≡ some a → arrowAt k x ≡ leaveAt m → ⊥
+  arrow-over k x a e here = omega (arith, target-range t s k x a e, s .transition-range k x a e)
+
+  hold-over : (k : ℕ) → (t .hold k ≡ 0) ⊎ (holdAt k ≡ leaveAt m → ⊥)
+  hold-over k =
+      ⊎-elim (λ unused. inl (unused-hold t s k unused)) (λ own. inr (λ here. omega (arith, s .node-range k (own .0) (own .1)))) (present (t .owner k))
+
+  -- leaving the machine costs nothing: the tree stays
+  pub leave-none : t .leave m ≡ 0 → grown t (leaveAt m) ≡ grown t (suc (leaveAt m))
+  leave-none free =
+      grown-still s (leaveAt m) node-over refine-over machine-over arrow-over hold-over
+      (λ p. ⊎-elim (λ same. inl (ap (t .leave) same ∙ free)) (λ other. inr (λ here. other (omega arith))) (equal-or-not p m))
+
+  module _ (charged : t .leave m ≡ 0 → ⊥) where
+    -- it is taken
+    pub leave-may : TakenLeave (grown t (leaveAt m)) m
+    unfolding grown
+    leave-may =
+        record {
+          machine-range = small;
+          not-root = λ same. charged (ap (t .leave) same ∙ s .leave-root);
+          machine-used =
+              ⊎-elim (λ unused. absurd (charged (s .leave-used m unused)))
+              (λ used.
+              (used .0, passed-in none (leaveAt m) (machinePlace t m) (t .start m) (omega (arith, machine-all s (used .1))) ∙ used .1))
+              (present (t .start m));
+        }
+
+    -- and what it leaves
+    pub leave-done : edited (grown t (leaveAt m)) (leave m (t .leave m)) ≡ grown t (suc (leaveAt m))
+    unfolding grown edited
+    leave-done =
+        same-tree _ _ refl (λ k. passed-still none (leaveAt m) (nodePlace t k) (t .owner k) (given (node-over k)))
+        (λ k. passed-still none (leaveAt m) (refinePlace t k) (t .below k) (given (refine-over k)))
+        (λ p. passed-still none (leaveAt m) (machinePlace t p) (t .start p) (given (machine-over p)))
+        (λ p.
+        passed-still none (leaveAt m) (machinePlace t p) (t .holder p)
+        (given λ h e. let (f, used) = s .held-used p h e in machine-over p f used))
+        (λ k x. passed-still none (leaveAt m) (arrowAt k x) (t .transition k x) (given (arrow-over k x)))
+        (λ k. passed-still 0 (leaveAt m) (holdAt k) (t .hold k) (hold-over k))
+        (passed-put 0 (leaveAt m) leaveAt (t .leave) m (t .leave m) refl refl (λ k. inr (λ here. omega arith)))
+
+-- a leaving cost has not come before its place
+pub leave-late : (t : Tree) (m : ℕ) → grown t (leaveAt m) .leave m ≡ 0
+unfolding grown
+leave-late t m = passed-out 0 (leaveAt m) (leaveAt m) (t .leave m) (omega arith)

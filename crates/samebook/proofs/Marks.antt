@@ -9,7 +9,7 @@ use borrow.Author.Tests.{eq-eqb}
 use Rattle.definitions.specs.Basics.{option, unless, isSome}
 use Rattle.definitions.specs.Tree.{Tree, usedMachine, over}
 use Rattle.definitions.specs.Sheet.{Rows}
-use Rattle.definitions.specs.Stream.{Edit, begin, add, refine, arrow, hold}
+use Rattle.definitions.specs.Stream.{Edit, begin, add, refine, arrow, hold, leave}
 use Rattle.definitions.specs.Edit.{single, withTransition, edited, touches, withStale, editedRows}
 use Rattle.definitions.specs.Open.{openRows}
 use Rattle.definitions.proofs.Words.{same-rows}
@@ -76,3 +76,8 @@ arrow-opens t n x v c = stays-open t (arrow n x v c) (λ p used. rw used (or-tru
 pub hold-opens : (t : Tree) (n b : ℕ) → StaysOpen t (hold n b)
 unfolding edited
 hold-opens t n b = stays-open t (hold n b) (λ p used. rw used (or-true (touches t (hold n b) p)))
+
+-- leave
+pub leave-opens : (t : Tree) (m c : ℕ) → StaysOpen t (leave m c)
+unfolding edited
+leave-opens t m c = stays-open t (leave m c) (λ p used. rw used (or-true (touches t (leave m c) p)))

@@ -10,12 +10,12 @@ use native.Mathlib.Omega.{arith}
 use lib.Dec.{eqb}
 use borrow.Author.Tests.{eqb-true, eqb-false}
 use Rattle.definitions.specs.Basics.{isAt, joined}
-use Rattle.definitions.specs.Limits.{nodes, commands, levels}
+use Rattle.definitions.specs.Limits.{machines, nodes, commands, levels}
 use Rattle.definitions.specs.Tree.{Tree, Transition, Sound, onHold, level}
-use Rattle.definitions.specs.Write.{pair, writtenBegin, writtenAdd, writtenRefine, writtenArrow, writtenHold, written}
+use Rattle.definitions.specs.Write.{pair, writtenBegin, writtenAdd, writtenRefine, writtenArrow, writtenHold, writtenLeave, written}
 use Rattle.definitions.proofs.Options.{none-some, some-same, true-false, isAt-true, isAt-some}
 use Rattle.definitions.proofs.Words.{hold-zero}
-use Rattle.samebook.proofs.Clock.{addAt, refineAt, arrowAt, holdAt, afterBegin, afterLevels, afterArrows, afterAll}
+use Rattle.samebook.proofs.Clock.{addAt, refineAt, arrowAt, holdAt, leaveAt, afterBegin, afterLevels, afterArrows, afterHolds, afterAll}
 
 -- ---- what stands at a place
 
@@ -88,13 +88,26 @@ hold-case {t} s n = tested (onHold t n) refl
     tested true e = one-hold (rw e) (eqb-true (t .hold n) 1 e)
     tested false e = no-hold (rw e) (hold-zero t s n e)
 
+-- a leave: of a machine that it costs something to leave
+pub data LeaveCase (t : Tree) (m : ℕ) : Type 0 where
+  no-leave : writtenLeave t m ≡ [] → t .leave m ≡ 0 → LeaveCase t m
+  one-leave : writtenLeave t m ≡ 0x1B ∷ m ∷ pair (t .leave m) → (t .leave m ≡ 0 → ⊥) → LeaveCase t m
+
+pub leave-case : (t : Tree) (m : ℕ) → LeaveCase t m
+unfolding writtenLeave
+leave-case t m = tested (eqb (t .leave m) 0) refl
+  where
+    tested : (b : Bool) → eqb (t .leave m) 0 ≡ b → LeaveCase t m
+    tested true e = no-leave (rw e) (eqb-true (t .leave m) 0 e)
+    tested false e = one-leave (rw e) (eqb-false (t .leave m) 0 e)
+
 -- ---- from the pieces to the whole
 
 -- what follows begin
 unfoldable pub body : Tree → List ℕ
 body t =
     joined levels (λ l. joined nodes (writtenAdd t (suc l)) ++ joined nodes (writtenRefine t (suc l)))
-    ++ (joined nodes (λ n. joined commands (writtenArrow t n)) ++ joined nodes (writtenHold t))
+    ++ (joined nodes (λ n. joined commands (writtenArrow t n)) ++ (joined nodes (writtenHold t) ++ joined machines (writtenLeave t)))
 
 -- the stream is begin and the body
 pub written-parts : (t : Tree) {f : ℕ} → t .start (t .root) ≡ some f → written t ≡ 0x10 ∷ t .root ∷ (pair f ++ body t)
@@ -127,12 +140,13 @@ module _ {R : ℕ → List ℕ → ℕ → Type 0} (r : Piecewise R) where
       → ((l i : ℕ) → l < levels → i < nodes → R (refineAt (suc l) i) (writtenRefine t (suc l) i) (suc (refineAt (suc l) i)))
       → ((n x : ℕ) → n < nodes → x < commands → R (arrowAt n x) (writtenArrow t n x) (suc (arrowAt n x)))
       → ((n : ℕ) → n < nodes → R (holdAt n) (writtenHold t n) (suc (holdAt n)))
+      → ((m : ℕ) → m < machines → R (leaveAt m) (writtenLeave t m) (suc (leaveAt m)))
       → R afterBegin (body t) afterAll
   unfolding body
-  body-all t adds refines arrows holds =
+  body-all t adds refines arrows holds leaves =
       r .both afterBegin afterLevels afterAll
       (joined levels (λ l. joined nodes (writtenAdd t (suc l)) ++ joined nodes (writtenRefine t (suc l))))
-      (joined nodes (λ n. joined commands (writtenArrow t n)) ++ joined nodes (writtenHold t))
+      (joined nodes (λ n. joined commands (writtenArrow t n)) ++ (joined nodes (writtenHold t) ++ joined machines (writtenLeave t)))
       (joined-all levels (λ l. joined nodes (writtenAdd t (suc l)) ++ joined nodes (writtenRefine t (suc l))) (λ l. suc l * 512)
       (λ l high.
       r .both (suc l * 512) (suc l * 512 + 256) (suc (suc l) * 512) (joined nodes (writtenAdd t (suc l)))
@@ -140,9 +154,11 @@ module _ {R : ℕ → List ℕ → ℕ → Type 0} (r : Piecewise R) where
       (joined-ones nodes (suc l * 512) (writtenAdd t (suc l)) (λ i small. adds l i high small))
       (subst (R (suc l * 512 + 256) (joined nodes (writtenRefine t (suc l)))) (omega arith)
       (joined-ones nodes (suc l * 512 + 256) (writtenRefine t (suc l)) (λ i small. refines l i high small)))))
-      (r .both afterLevels afterArrows afterAll (joined nodes (λ n. joined commands (writtenArrow t n))) (joined nodes (writtenHold t))
+      (r .both afterLevels afterArrows afterAll (joined nodes (λ n. joined commands (writtenArrow t n)))
+      (joined nodes (writtenHold t) ++ joined machines (writtenLeave t))
       (joined-all nodes (λ n. joined commands (writtenArrow t n)) (λ n. 4608 + n * 16)
       (λ n small.
       subst (R (4608 + n * 16) (joined commands (writtenArrow t n))) (omega arith)
       (joined-ones commands (4608 + n * 16) (writtenArrow t n) (λ x known. arrows n x small known))))
-      (joined-ones nodes afterArrows (writtenHold t) holds))
+      (r .both afterArrows afterHolds afterAll (joined nodes (writtenHold t)) (joined machines (writtenLeave t))
+      (joined-ones nodes afterArrows (writtenHold t) holds) (joined-ones machines afterHolds (writtenLeave t) leaves)))

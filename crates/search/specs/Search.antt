@@ -8,13 +8,13 @@ use Prim.Native.Nat.{ℕ, _+_, _*_, _-_, _≤_, _<_}
 use lib.Dec.{eqb}
 use lib.ListN.{length, getD}
 use Rattle.definitions.specs.Basics.{_>>=_, iterate}
-use Rattle.definitions.specs.Limits.{nodes, commands}
+use Rattle.definitions.specs.Limits.{nodes, commands, largestStepCost}
 use Rattle.definitions.specs.Step.{Arrival}
 use Rattle.definitions.specs.Book.{number, under}
 
--- the largest cost of a move: 256 × 65,535
+-- the largest cost of a move: 258 times that of a step, of which an exit cost may take 256, leaving its machine one and a transition one
 abbrev pub largestMove : ℕ
-largestMove = 16776960
+largestMove = 258 * largestStepCost
 
 -- the word for a distance that is not there
 abbrev pub unreached : ℕ

@@ -15,7 +15,7 @@ pub const ABSENT: u32 = 65535;
 pub const UNREACHED: u64 = 18446744073709551615;
 
 // The largest cost of a move.
-pub const LARGEST: u64 = 16776960;
+pub const LARGEST: u64 = 135264240;
 
 // The word at place i of a table.
 fn word(table: &[u32], i: usize) -> u32

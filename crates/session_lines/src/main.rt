@@ -100,14 +100,19 @@ fn main() {
     );
     show(b"an unknown opcode at once:", b"\x00");
     show_mast(
-        b"an opcode above a hold's:",
+        b"an opcode above a leaving charge's:",
         &mut list,
-        b"\x18\x19\x00\x00\x00\x02\x1B\x00\x00\x00\x02",
+        b"\x18\x19\x00\x00\x00\x02\x1C\x00\x00\x00\x02",
     );
     show_mast(
         b"a hold, a plan round it, its release, and a hold on a start node:",
         &mut list,
         b"\x1A\x00\x0B\x01\x18\x19\x00\x00\x00\x02\x1A\x00\x0B\x00\x18\x19\x00\x00\x00\x02\x1A\x00\x00\x01",
+    );
+    show_mast(
+        b"a charge, a plan round it, its end, and a charge of the root:",
+        &mut list,
+        b"\x1B\x01\x00\x09\x18\x19\x00\x00\x00\x02\x1B\x01\x00\x00\x18\x19\x00\x00\x00\x02\x1B\x00\x00\x01",
     );
     show_mast(b"a plan cut short:", &mut list, b"\x19\x00\x00\x00");
     show_mast(

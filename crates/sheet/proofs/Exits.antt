@@ -1,16 +1,17 @@
 -- The own exit cost of a node, from the words that `own_exit` looks at. Assumes nothing.
 use mathlib.Core.Path.{_≡_, refl, sym, ap, _∙_}
+use mathlib.Core.Bool.{cond}
 use mathlib.Core.Option.{Option, none, some}
-use Prim.Native.Nat.{ℕ, _+_, _%_, _<_}
+use Prim.Native.Nat.{ℕ, _+_, _%_, _≤_, _<_}
 use native.Mathlib.Omega.{arith}
+use lib.Dec.{eqb}
+use borrow.Author.Tests.{eq-eqb, ne-eqb}
 use Rattle.definitions.specs.Limits.{machines, absent, blank}
 use Rattle.definitions.specs.Tree.{Tree, Sound}
-use Rattle.definitions.specs.Step.{leaving}
 use Rattle.definitions.specs.Book.{word}
 use Rattle.definitions.specs.Sheet.{Rows, costWord}
 use Rattle.definitions.specs.Truth.{nodeExit}
 use Rattle.definitions.proofs.Options.{none-some, some-same}
-use Rattle.definitions.proofs.Path.{leaving-free}
 use Rattle.definitions.proofs.Words.{present-word, below-range, no-below}
 use Rattle.definitions.proofs.Local.{exit-plain, exit-refined}
 use Rattle.sheet.specs.declared.OwnExit.{OwnExit}
@@ -35,27 +36,32 @@ exit-never t r n x bel e = rw (bel, e)
 
 module _ {t : Tree} (s : Sound t) {r : Rows} (read : ReadRows r) (n x : ℕ) {b : ℕ} (below : b ≡ word (t .below n)) where
   -- a plain node is left at no cost
-  pub exits-plain : b ≡ absent → {w : ℕ} → w ≡ 0 → Exits (nodeExit t r n x) (Costs w)
-  exits-plain z free =
-      record { is = ap some free ∙ sym (exit-plain t r n x (no-below t s n below z)); small = λ e f. omega (arith, some-same refl f) }
+  pub exits-plain : b ≡ absent → {w l : ℕ} → w ≡ 0 → l ≡ cond (eqb b absent) 0 (t .leave (b % machines)) → Exits (nodeExit t r n x) (Costs (w + l))
+  exits-plain z {w} {l} free left =
+      let none-left : l ≡ 0 = left ∙ rw (eq-eqb b absent z) in
+      let cost : w + l ≡ 0 = omega arith in
+      record { is = ap some cost ∙ sym (exit-plain t r n x (no-below t s n below z)); small = λ e f. omega (arith, some-same refl f, cost) }
 
-  -- a refined node is left as the machine below it is
+  -- a refined node is left as the machine below it is, and that machine is left
   module _ (other : b ≡ absent → ⊥) {e : ℕ} (exit : e ≡ costWord (r .exit (b % machines) x)) where
     holds : t .below n ≡ some b
     holds = present-word (t .below n) below other
 
+    machine : b % machines ≡ b
+    machine = omega (arith, below-range t s n b holds .1)
+
     below-exit : e ≡ costWord (r .exit b x)
-    below-exit =
-        let same : b % machines ≡ b = omega (arith, below-range t s n b holds .1) in
-        rw same at exit
+    below-exit = rw machine at exit
 
     pub exits-never : e ≡ blank → Exits (nodeExit t r n x) Never
     exits-never z =
         let free : r .exit b x ≡ none = cost-unsaid (r .exit b x) (read .exit b x) below-exit z in
         record { is = sym (exit-never t r n x holds free); small = λ e f. absurd (none-some refl f) }
 
-    pub exits-costs : (e ≡ blank → ⊥) → {w : ℕ} → w ≡ e → w < exitLimit → Exits (nodeExit t r n x) (Costs w)
-    exits-costs there {w} same small =
-        let exit : nodeExit t r n x ≡ some (e + leaving t b) = exit-refined t r n x holds (cost-said (r .exit b x) below-exit there) in
-        let cost : w ≡ e + leaving t b = omega (arith, leaving-free t b) in
-        record { is = ap some cost ∙ sym exit; small = λ k f. omega (arith, some-same refl f) }
+    pub exits-costs : (e ≡ blank → ⊥) → {w l : ℕ} → w ≡ e → w ≤ blank → l ≡ cond (eqb b absent) 0 (t .leave (b % machines))
+        → Exits (nodeExit t r n x) (Costs (w + l))
+    exits-costs there {w} {l} same small left =
+        let exit : nodeExit t r n x ≡ some (e + t .leave b) = exit-refined t r n x holds (cost-said (r .exit b x) below-exit there) in
+        let there-left : l ≡ t .leave b = left ∙ rw (ne-eqb b absent other, machine) in
+        let cost : w + l ≡ e + t .leave b = omega arith in
+        record { is = ap some cost ∙ sym exit; small = λ k f. omega (arith, some-same refl f, s .leave-range b) }

@@ -2,9 +2,9 @@
 use mathlib.Core.Path.{_≡_}
 use mathlib.Core.Option.{Option, none, some}
 use mathlib.Core.List.{List}
-use Prim.Native.Nat.{ℕ, _<_}
+use Prim.Native.Nat.{ℕ, _+_, _<_}
 use lib.ListN.{length}
-use Rattle.definitions.specs.Limits.{sheetLength}
+use Rattle.definitions.specs.Limits.{costs, sheetLength, blank}
 use Rattle.definitions.specs.Book.{WellFormed}
 use Rattle.sheet.specs.declared.OwnExit.{OwnExit}
 use Rattle.sheet.specs.declared.OwnExit.the-variants.{Costs, Never}
@@ -19,9 +19,9 @@ abbrev pub exitOf : OwnExit → Option ℕ
 exitOf (Costs e) = some e
 exitOf Never = none
 
--- an own exit cost is under this
+-- an own exit cost is under this: any word, and a leaving cost
 abbrev pub exitLimit : ℕ
-exitLimit = 4294967296
+exitLimit = blank + costs
 
 -- the answer is o, and no cost in it is too large
 pub record Exits (o : Option ℕ) (a : OwnExit) : Type 0 where

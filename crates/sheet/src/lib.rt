@@ -2,10 +2,11 @@
 // numbers are in range; what a word says is then what the sheet's rows say, and a store changes one field of those rows. BLANK and ABSENT
 // are the book's. From book and sheet together: what leaving a node costs.
 ghost use mathlib.Core.Path.{_≡_};
-ghost use Prim.Native.Nat.{_+_, _*_, _<_};
+ghost use mathlib.Core.Bool.{cond};
+ghost use Prim.Native.Nat.{_+_, _*_, _%_, _<_};
 ghost use lib.Dec.{eqb};
 ghost use lib.ListN.{length, set};
-ghost use Rattle.definitions.specs.Limits.{machines, nodes, commands, sheetLength};
+ghost use Rattle.definitions.specs.Limits.{machines, nodes, commands, bookLength, sheetLength, absent};
 ghost use Rattle.definitions.specs.Book.{word, number, treeOf};
 ghost use Rattle.definitions.specs.Sheet.{machineRowLength, nodeRowLength, costWord, costOf, nodeRow, machineRowWord, rowsOf};
 ghost use Rattle.definitions.specs.Truth.{nodeExit};
@@ -88,19 +89,30 @@ pub fn by(sheet: &[u32], n: u32) -> u32
     node_row_word(sheet, n, 2)
 }
 
-// The own exit cost of node n for command x: 0 for a plain node, and for a refined one what the sheet says of the machine below it. Whether n is
-// plain cannot be foreseen: a word is read in either case, so that no jump is needed.
+// What leaving machine b costs; 0 where b is ABSENT. A word is read in either case, so that no jump is needed.
+fn left_at(book: &[u32], b: u32) -> u32
+    requires { ⌜ length (now book) ≡ bookLength ⌝ }
+    ensures { λ r. ⌜ r ≡ cond (eqb b absent) 0 (treeOf (now (book .entry)) .leave (b % machines)) ⌝ }
+{
+    let c = book::leave(book, b % book::MACHINES);
+    if b == book::ABSENT { 0 } else { c }
+}
+
+// The own exit cost of node n for command x: 0 for a plain node, and for a refined one what the sheet says of the machine below it and what leaving
+// that machine costs. Whether n is plain cannot be foreseen: a word is read in either case, so that no jump is needed.
 pub fn own_exit(book: &[u32], sheet: &[u32], n: u32, x: u32) -> OwnExit
     requires { ⌜ Readable (now book) (now sheet) × (n < nodes) × (x < commands) ⌝ }
     ensures { λ r. ⌜ Exits (nodeExit (treeOf (now (book .entry))) (rowsOf (now (sheet .entry))) n x) r ⌝ }
 {
     let b = book::below(book, n);
     let e = exit(sheet, b % book::MACHINES, x);
+    let left = left_at(book, b);
     let own = if b == book::ABSENT { 0 } else { e };
     if own == book::BLANK {
         return OwnExit::Never;
     }
-    OwnExit::Costs(book::wide(own))
+    let cost = book::wide(own) + book::wide(left);
+    OwnExit::Costs(cost)
 }
 
 // Makes v the word at place k of machine m's row; every other word stays.

@@ -5,7 +5,7 @@ use mathlib.Core.List.{List}
 use Prim.Native.Nat.{ℕ, _+_, _/_, _%_}
 use Rattle.definitions.specs.Limits.{costs, absent, blank}
 use Rattle.definitions.specs.Tree.{Tree, UsedNode, Sound}
-use Rattle.definitions.specs.Step.{counting, leaving, found, passed, past, climb}
+use Rattle.definitions.specs.Step.{counting, found, passed, past, climb}
 use Rattle.definitions.specs.Book.{word, transitionWord, treeOf, WellFormed}
 use Rattle.definitions.proofs.Path.{root-holder, climb-own, climb-top, climb-on}
 use Rattle.definitions.proofs.Inside.{past-past}
@@ -22,7 +22,7 @@ module _ {t : Tree} (s : Sound t) {n m : ℕ} (x : ℕ) (own-n : t .owner n ≡ 
       climb-top t (t .root) n x (own-n ∙ ap some (top-root s used top-m)) free
 
   -- another: on from the node that holds its machine, which is left
-  pub climb-up : {h : ℕ} → t .holder m ≡ some h → climb t (t .root) n x ≡ past (leaving t m) (climb t (t .root) h x)
+  pub climb-up : {h : ℕ} → t .holder m ≡ some h → climb t (t .root) n x ≡ past (t .leave m) (climb t (t .root) h x)
   climb-up hold = climb-on s (t .root) x own-n (λ same. root-holder s same hold) hold free
 
 -- the climb for x from node s comes to node n, and leaving the machines on the way costs left
@@ -49,7 +49,7 @@ module _ (ws : List ℕ) (w : WellFormed ws) {s x n left a : ℕ} (to : ClimbedT
         (climb-ends (w .sound) x (own ws w n (to .used) owner) (no-counting (w .sound) n x says free) (top ws w n (to .used) owner holder none-holds))
 
     -- no transition that counts, and node h holds the owner
-    pub climbed-on : (h ≡ absent → ⊥) → ClimbedTo (treeOf ws) s x h (left + leaving (treeOf ws) o)
+    pub climbed-on : (h ≡ absent → ⊥) → ClimbedTo (treeOf ws) s x h (left + (treeOf ws) .leave o)
     climbed-on there =
         record {
           used = used-holder ws w n (to .used) owner holder there;
@@ -57,5 +57,5 @@ module _ (ws : List ℕ) (w : WellFormed ws) {s x n left a : ℕ} (to : ClimbedT
               to .same
               ∙ ap (past left)
               (climb-up (w .sound) x (own ws w n (to .used) owner) (no-counting (w .sound) n x says free) (held ws w n (to .used) owner holder there))
-              ∙ past-past left (leaving (treeOf ws) o) (climb (treeOf ws) (treeOf ws .root) h x);
+              ∙ past-past left ((treeOf ws) .leave o) (climb (treeOf ws) (treeOf ws .root) h x);
         }

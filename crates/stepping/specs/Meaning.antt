@@ -16,10 +16,10 @@ abbrev pub answerOf : StepAnswer → Answer
 answerOf (StepAnswer.Moved s c n) = gives (s ∷ c ∷ n ∷ [])
 answerOf (StepAnswer.Refused k) = refuses k
 
--- what a climb up to the root found; leaving costs nothing, so where it found none it passed at cost 0
-abbrev pub climbOf : Climbed → Climb
-climbOf (Found n v c) = found n v c
-climbOf Passed = passed 0
+-- what a climb up to the root found; where it found none, what leaving cost on the way is not told
+abbrev pub ClimbSays : Climbed → Climb → Type 0
+ClimbSays (Found n v c) up = up ≡ found n v c
+ClimbSays Passed up = (d : ℕ) × (up ≡ passed d)
 
 -- r is the first of the refusals 6, 7, 14 of two states that holds, and 0 where none does
 abbrev pub StatesJudged : Tree → ℕ → ℕ → ℕ → Type 0

@@ -8,9 +8,9 @@ ghost use Rattle.definitions.specs.Tree.{UsedNode, level, within};
 ghost use Rattle.definitions.specs.Book.{treeOf, WellFormed};
 ghost use Rattle.definitions.specs.Step.{enter, climb};
 ghost use Rattle.definitions.specs.Calls.{StepSays};
-ghost use Rattle.stepping.specs.Meaning.{climbOf, StatesJudged, answerOf};
+ghost use Rattle.stepping.specs.Meaning.{ClimbSays, StatesJudged, answerOf};
 
-// Where a command finds a transition: the node that has it, its target and its cost; or that it finds none.
+// Where a command finds a transition: the node that has it, its target and its cost, with that of leaving the machines below; or that it finds none.
 pub enum Climbed {
     Found { node: u32, target: u32, cost: u32 },
     Passed,
@@ -25,22 +25,26 @@ pub enum StepAnswer {
 // The lowest node, s itself first and then the nodes that hold it, that has a transition for x which counts.
 fn climb(book: &[u32], s: u32, x: u32) -> Climbed
     requires { ⌜ WellFormed (now book) × UsedNode (treeOf (now book)) s × (x < commands) ⌝ }
-    ensures { λ r. ⌜ climbOf r ≡ climb (treeOf (now (book .entry))) (treeOf (now (book .entry)) .root) s x ⌝ }
+    ensures { λ r. ⌜ ClimbSays r (climb (treeOf (now (book .entry))) (treeOf (now (book .entry)) .root) s x) ⌝ }
 {
     let mut n = s;
+    let mut left = 0u32;
     loop {
         let w = book::counting(book, n, x);
-        let h = book::holder(book, book::owner(book, n));
+        let m = book::owner(book, n);
+        let h = book::holder(book, m);
         if w != book::BLANK {
+            let cost = left + w % 65536;
             return Climbed::Found {
                 node: n,
                 target: w / 65536,
-                cost: w % 65536,
+                cost,
             };
         }
         if h == book::ABSENT {
             return Climbed::Passed;
         }
+        left += book::leave(book, m);
         n = h;
     }
 }

@@ -3,7 +3,7 @@ use mathlib.Core.Path.{_≡_, sym, ap, _∙_}
 use mathlib.Core.Logic.{inr, ⊎-elim}
 use mathlib.Core.Bool.{Bool, not}
 use mathlib.Core.Option.{some}
-use Prim.Native.Nat.{ℕ, _/_, _<_}
+use Prim.Native.Nat.{ℕ, _/_, _≤_, _<_}
 use native.Mathlib.Omega.{arith}
 use lib.Dec.{eqb}
 use Rattle.definitions.specs.Limits.{machines, nodes, levels, costs, absent, blank}
@@ -12,7 +12,7 @@ use Rattle.definitions.specs.Book.{word, transitionWord}
 use Rattle.definitions.proofs.Options.{some-same}
 use Rattle.definitions.proofs.Words.{present-word}
 use Rattle.book.specs.Decides.{Decides}
-use Rattle.wellformed.specs.Fits.{Climbs, RootFits, StartFits, HolderFits}
+use Rattle.wellformed.specs.Fits.{Climbs, RootFits, StartFits, HolderFits, LeaveFits}
 use Rattle.wellformed.specs.Fits.{OwnerFits, BelowFits, HoldFits, TransitionFits}
 use Rattle.book.proofs.Decide.{decides-same, decides-if, decides-equal, decides-other}
 use Rattle.wellformed.proofs.Fits.{Read}
@@ -71,6 +71,19 @@ module _ {t : Tree} (read : Read t) where
       let (p, own-p, inner) = rest .1 in
       let first : t .start m ≡ some n = present-word (t .start m) (sym same ∙ ef) (λ z. omega arith) in
       inner (ap (t .start) (some-same own-p own) ∙ first)) fits)
+
+  -- what leaving a machine costs: too much, of a machine that is not in use, and of one that is
+  pub leave-large : (m : ℕ) {c : ℕ} → c ≡ t .leave m → costs ≤ c → LeaveFits t m → ⊥
+  leave-large m ec large fits = ⊎-elim (λ free. omega (arith, free)) (λ rest. omega (arith, rest .0)) fits
+
+  pub leave-unused : (m : ℕ) {c s : ℕ} → c ≡ t .leave m → (c ≡ 0 → ⊥) → s ≡ word (t .start m) → s ≡ absent → LeaveFits t m → ⊥
+  leave-unused m ec charged es z fits = ⊎-elim (λ free. charged (ec ∙ free)) (λ rest. machine-unused m es z (rest .1)) fits
+
+  pub leave-decides : (m : ℕ) {c s r : ℕ} → c ≡ t .leave m → (c ≡ 0 → ⊥) → c < costs → s ≡ word (t .start m) → (s ≡ absent → ⊥) → r ≡ t .root
+      → Decides (not (eqb r m)) (LeaveFits t m)
+  leave-decides m {c} {s} {r} ec charged small es used er =
+      decides-other r m (λ other. inr (omega arith, machine-used m es used, λ same. other (er ∙ sym same)))
+      (λ fits same. ⊎-elim (λ free. charged (ec ∙ free)) (λ rest. rest .2 (sym same ∙ er)) fits)
 
   -- the node that holds a machine
   pub holder-other : (m : ℕ) {h b : ℕ} → h ≡ word (t .holder m) → (h ≡ absent → ⊥) → b ≡ word (t .below h) → (b ≡ m → ⊥)

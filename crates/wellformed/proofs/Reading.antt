@@ -39,6 +39,7 @@ treeOf-read ws =
           let (cost, other) = transition-read (nodeWord ws n (2 + x)) a g in
           (hn, hx, cost, other);
       hold = λ n past. rw (le-ltb n nodes past);
+      leave = λ m past. rw (le-ltb m machines past);
     }
 
 -- ---- the machine just above a machine

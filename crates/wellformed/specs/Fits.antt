@@ -5,7 +5,7 @@ use mathlib.Core.Logic.{_⊎_}
 use mathlib.Core.Option.{none, some}
 use Prim.Native.Nat.{ℕ, _<_}
 use Rattle.definitions.specs.Basics.{iterate}
-use Rattle.definitions.specs.Limits.{machines, nodes, commands, levels}
+use Rattle.definitions.specs.Limits.{machines, nodes, commands, costs, levels}
 use Rattle.definitions.specs.Tree.{Tree, Transition, UsedMachine, UsedNode, parent}
 
 -- machine m climbs to the root in fewer than k steps
@@ -25,10 +25,15 @@ StartFits t m = (s : ℕ) → t .start m ≡ some s → (t .owner s ≡ some m) 
 abbrev pub HolderFits : Tree → ℕ → Type 0
 HolderFits t m = (n : ℕ) → t .holder m ≡ some n → (t .below n ≡ some m) × UsedNode t n × UsedMachine t m
 
+-- what leaving machine m costs is 0, or less than 65,536 where m is in use and not the root
+abbrev pub LeaveFits : Tree → ℕ → Type 0
+LeaveFits t m = (t .leave m ≡ 0) ⊎ ((t .leave m < costs) × UsedMachine t m × (m ≡ t .root → ⊥))
+
 -- what machine m says fits
 pub record MachineFits (t : Tree) (m : ℕ) : Type 0 where
   pub start : StartFits t m
   pub holder : HolderFits t m
+  pub leave : LeaveFits t m
 
 -- node n, where it is in use, belongs to a machine in use
 abbrev pub OwnerFits : Tree → ℕ → Type 0

@@ -1,4 +1,4 @@
-// Whether a book is well formed (document 01, "Book and sheet in memory"; document 02, W-205; refusal 2). The words of a book may say anything
+// Whether a book is well formed (document 01, "Book and sheet in memory"; document 02, W-205, W-207; refusal 2). The words of a book may say anything
 // here, so a number is looked at before it is an index.
 ghost use mathlib.Core.Path.{_≡_};
 ghost use Prim.Native.Nat.{_<_};
@@ -7,7 +7,7 @@ ghost use Rattle.definitions.specs.Limits.{machines, nodes, commands, levels, b
 ghost use Rattle.definitions.specs.Tree.{parent};
 ghost use Rattle.definitions.specs.Book.{word, treeOf, WellFormed};
 ghost use Rattle.book.specs.Decides.{Decides};
-ghost use Rattle.wellformed.specs.Fits.{Climbs, RootFits, StartFits, HolderFits, MachineFits, MachinesFit};
+ghost use Rattle.wellformed.specs.Fits.{Climbs, RootFits, StartFits, HolderFits, LeaveFits, MachineFits, MachinesFit};
 ghost use Rattle.wellformed.specs.Fits.{OwnerFits, BelowFits, HoldFits, TransitionFits, TransitionsFit, NodeFits, NodesFit};
 
 // The most steps from a machine to the root: one less than there are levels.
@@ -135,6 +135,24 @@ fn holder_fits(book: &[u32], m: u32) -> bool
     book::start(book, m) != book::ABSENT
 }
 
+// Whether what leaving machine m costs is 0, or less than 65,536 where m is in use and not the root.
+fn leave_fits(book: &[u32], m: u32) -> bool
+    requires { ⌜ (length (now book) ≡ bookLength) × (m < machines) ⌝ }
+    ensures { λ r. ⌜ Decides r (LeaveFits (treeOf (now (book .entry))) m) ⌝ }
+{
+    let c = book::leave(book, m);
+    if c == 0 {
+        return true;
+    }
+    if 65536 <= c {
+        return false;
+    }
+    if book::start(book, m) == book::ABSENT {
+        return false;
+    }
+    book::root(book) != m
+}
+
 // Whether what machine m says fits.
 fn machine_fits(book: &[u32], m: u32) -> bool
     requires { ⌜ (length (now book) ≡ bookLength) × (m < machines) ⌝ }
@@ -143,7 +161,10 @@ fn machine_fits(book: &[u32], m: u32) -> bool
     if !start_fits(book, m) {
         return false;
     }
-    holder_fits(book, m)
+    if !holder_fits(book, m) {
+        return false;
+    }
+    leave_fits(book, m)
 }
 
 // Whether every machine fits.

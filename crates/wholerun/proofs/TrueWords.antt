@@ -3,25 +3,24 @@ use mathlib.Core.Path.{_≡_, refl, sym, _∙_, ap, subst}
 use mathlib.Core.Logic.{_⊎_, inl, inr, ⊎-elim}
 use mathlib.Core.Bool.{Bool, true, false, cond}
 use mathlib.Core.Option.{none, some}
-use Prim.Native.Nat.{ℕ, zero, suc, _+_, _*_, _-_, _≤_, _<_}
+use Prim.Native.Nat.{ℕ, zero, suc, _-_, _≤_, _<_}
 use native.Mathlib.Omega.{arith}
 use lib.Dec.{ltb}
 use borrow.Author.Tests.{ltb-true, ltb-false}
-use Rattle.definitions.specs.Basics.{iterate}
-use Rattle.definitions.specs.Limits.{commands, nodes, largestCost, largestPlanCost, absent, blank}
+use Rattle.definitions.specs.Limits.{commands, nodes, absent, blank}
 use Rattle.definitions.specs.Tree.{Tree, Sound}
 use Rattle.definitions.specs.Costs.{ExitCost}
 use Rattle.definitions.specs.Book.{word, under}
 use Rattle.definitions.specs.Sheet.{Rows, costWord, machineRowLength, machineRow, nodeRow, rowsOf, encodeRows}
 use Rattle.definitions.specs.Truth.{BlankMachine, BlankNode, TrueRows, TrueSheet}
-use Rattle.definitions.proofs.Options.{bind-some, none-some, some-same, true-false, decided, present, equal-or-not}
+use Rattle.definitions.proofs.Options.{none-some, some-same, true-false, decided, present, equal-or-not}
 use Rattle.definitions.proofs.Path.{parent-below}
 use Rattle.definitions.proofs.Simple.{exit-largest}
 use Rattle.definitions.proofs.LocalTruth.{filled-below, true-local, local-true}
+use Rattle.definitions.proofs.Reached.{cost-bound}
 use Rattle.definitions.proofs.Words.{under-some, encodeRows-length, encodeRows-is, machine-row-word, node-row-word, under-in, InRange, rowsOf-encodeRows}
 use Rattle.definitions.proofs.Tests.{rows-sheet}
 use Rattle.rows.proofs.Locality.{same-machine, SameRow, same-row}
-use Rattle.refreshing.proofs.Bounds.{move-bound}
 
 -- rows as far as they speak of the commands that there are
 abbrev commanded : Rows → Rows
@@ -135,27 +134,6 @@ module _ {t : Tree} (s : Sound t) {r : Rows} (rows : TrueRows t r) where
       ⊎-elim (λ stale. blank-row (rows .blanks .stale-node n m own stale)) (λ full. filled-row own first full) (decided (r .stale m)))
       (present (t .owner n))
 
-  -- a node reached over so many names costs at most so many moves
-  chain-bound : (m f : ℕ) → t .start m ≡ some f → r .stale m ≡ false → (k n c : ℕ) → t .owner n ≡ some m → r .cost n ≡ some c
-      → iterate (r .before) k n ≡ some f → c ≤ k * (largestPlanCost + largestCost)
-  unfolding iterate
-  chain-bound m f used full zero n c own cost e =
-      omega (arith, some-same cost (ap (r .cost) (some-same refl e) ∙ rows .filled m f used full .start-cost))
-  chain-bound m f used full (suc k) n c own cost e =
-      ⊎-elim (λ start. omega (arith, some-same cost (ap (r .cost) start ∙ rows .filled m f used full .start-cost)))
-      (λ other.
-      let name = rows .filled m f used full .named n c own other cost in
-      let (v, named, rest) = bind-some (r .before n) (iterate (r .before) k) e in
-      let on : iterate (r .before) k (name .node) ≡ some f = rw (some-same named (name .before)) at rest in
-      omega (
-        arith,
-        chain-bound m f used full k (name .node) (name .node-cost) (name .owned) (name .reached) on,
-        move-bound s r rows (name .node)
-            (λ b down. filled-below t r (rows .stale-above) b m (parent-below s (name .owned) down) full) (name .command) (name .moves),
-        name .exact,
-      ))
-      (equal-or-not n f)
-
   -- a node names nothing before it, or a node of its machine and a command
   node-names : (n : ℕ) → NodeNames t r n
   node-names n = go (node-row n)
@@ -177,8 +155,8 @@ module _ {t : Tree} (s : Sound t) {r : Rows} (rows : TrueRows t r) where
   cost-range : (n c : ℕ) → r .cost n ≡ some c → NodeRow t r n → (n < nodes) × (c < blank)
   cost-range n c e (blank-row empty) = absurd (none-some (empty .cost) e)
   cost-range n c e (filled-row {m} {f} own used full) =
-      let (k, short, way) = rows .filled m f used full .chain n c own e in
-      (s .node-range n m own, omega (arith, chain-bound m f used full k n c own e way))
+      let below = cost-bound s r rows used (λ u b own-u bel. filled-below t r (rows .stale-above) b m (parent-below s own-u bel) full) full own e in
+      (s .node-range n m own, omega (arith, below))
 
   -- and what it names
   before-range : (n k : ℕ) → r .before n ≡ some k → NodeNames t r n → (n < nodes) × (k < absent)

@@ -18,7 +18,7 @@ use Rattle.definitions.specs.Limits.{machines, nodes, commands, levels}
 use Rattle.definitions.specs.Tree.{Tree, Transition, UsedNode, Sound, onHold, level}
 use Rattle.definitions.specs.Edit.{isStart}
 use Rattle.definitions.specs.Book.{word}
-use Rattle.definitions.specs.Write.{pair, writtenBegin, writtenAdd, writtenRefine, writtenArrow, writtenHold, written}
+use Rattle.definitions.specs.Write.{pair, writtenBegin, writtenAdd, writtenRefine, writtenArrow, writtenHold, writtenLeave, written}
 use Rattle.definitions.proofs.Options.{equal-or-not}
 use Rattle.definitions.proofs.Words.{start-range}
 use Rattle.storing.specs.Stored.{Stored}
@@ -33,9 +33,9 @@ option-short w f none h = omega arith
 option-short w f (some a) h = h a
 
 -- the same for a test
-cond-short : {B : Type 0} (w : ℕ) (b : Bool) (xs : List B) → length xs ≤ w → length (cond b xs []) ≤ w
-cond-short w true xs h = h
-cond-short w false xs h = omega arith
+cond-short : {B : Type 0} (w : ℕ) (b : Bool) (xs ys : List B) → length xs ≤ w → length ys ≤ w → length (cond b xs ys) ≤ w
+cond-short w true xs ys h k = h
+cond-short w false xs ys h k = k
 
 -- empty where what is there is empty
 option-empty : {A B : Type 0} (f : A → List B) (o : Option A) → ((a : A) → f a ≡ []) → option [] f o ≡ []
@@ -149,7 +149,7 @@ pub add-short : (t : Tree) (l n : ℕ) → length (writtenAdd t l n) ≤ 4
 unfolding writtenAdd
 add-short t l n =
     option-short 4 (λ m. cond (eqb (level t n) l && not (isStart t n)) (0x11 ∷ m ∷ pair n) []) (t .owner n)
-    (λ m. cond-short 4 (eqb (level t n) l && not (isStart t n)) (0x11 ∷ m ∷ pair n) (omega arith))
+    (λ m. cond-short 4 (eqb (level t n) l && not (isStart t n)) (0x11 ∷ m ∷ pair n) [] (omega arith) (omega arith))
 
 -- a refine at most 6
 pub refine-short : (t : Tree) (l n : ℕ) → length (writtenRefine t l n) ≤ 6
@@ -158,7 +158,7 @@ refine-short t l n =
     option-short 6 (λ m. option [] (λ f. cond (eqb (level t n) l) (0x12 ∷ (pair n ++ m ∷ pair f)) []) (t .start m)) (t .below n)
     (λ m.
     option-short 6 (λ f. cond (eqb (level t n) l) (0x12 ∷ (pair n ++ m ∷ pair f)) []) (t .start m)
-    (λ f. cond-short 6 (eqb (level t n) l) (0x12 ∷ (pair n ++ m ∷ pair f)) (omega arith)))
+    (λ f. cond-short 6 (eqb (level t n) l) (0x12 ∷ (pair n ++ m ∷ pair f)) [] (omega arith) (omega arith)))
 
 -- an arrow at most 8
 pub arrow-short : (t : Tree) (n x : ℕ) → length (writtenArrow t n x) ≤ 8
@@ -169,7 +169,7 @@ arrow-short t n x =
 -- a hold at most 4
 pub hold-short : (t : Tree) (n : ℕ) → length (writtenHold t n) ≤ 4
 unfolding writtenHold
-hold-short t n = cond-short 4 (onHold t n) (0x1A ∷ (pair n ++ 1 ∷ [])) (omega arith)
+hold-short t n = cond-short 4 (onHold t n) (0x1A ∷ (pair n ++ 1 ∷ [])) [] (omega arith) (omega arith)
 
 -- a node that is held, and one that is not
 pub hold-node : (t : Tree) (n : ℕ) {h : ℕ} → h ≡ t .hold n → h ≡ 1 → 0x1A ∷ (pair n ++ 1 ∷ []) ≡ writtenHold t n
@@ -179,6 +179,20 @@ hold-node t n says one = rw (← says, one)
 pub hold-none : (t : Tree) (n : ℕ) {h : ℕ} → h ≡ t .hold n → (h ≡ 1 → ⊥) → writtenHold t n ≡ []
 unfolding writtenHold
 hold-none t n {h} says other = rw (← says, ne-eqb h 1 other)
+
+-- a leave at most 4
+pub leave-short : (t : Tree) (m : ℕ) → length (writtenLeave t m) ≤ 4
+unfolding writtenLeave
+leave-short t m = cond-short 4 (eqb (t .leave m) 0) [] (0x1B ∷ m ∷ pair (t .leave m)) (omega arith) (omega arith)
+
+-- a machine whose leaving is charged, and one that is left for nothing
+pub leave-machine : (t : Tree) (m : ℕ) {v : ℕ} → v ≡ t .leave m → (v ≡ 0 → ⊥) → 0x1B ∷ m ∷ pair v ≡ writtenLeave t m
+unfolding writtenLeave
+leave-machine t m {v} says charged = rw (← says, ne-eqb v 0 charged)
+
+pub leave-none : (t : Tree) (m : ℕ) {v : ℕ} → v ≡ t .leave m → v ≡ 0 → writtenLeave t m ≡ []
+unfolding writtenLeave
+leave-none t m says free = rw (← says, free)
 
 -- the adds of a level
 pub adds-short : (t : Tree) (l : ℕ) → length (joined nodes (writtenAdd t l)) ≤ nodes * 4
@@ -267,9 +281,15 @@ levels-short t = joined-short 2560 levels (writtenLevel t) (level-short t)
 pub all-arrows-short : (t : Tree) → length (joined nodes (writtenArrows t)) ≤ nodes * 128
 all-arrows-short t = joined-short 128 nodes (writtenArrows t) (arrows-short t)
 
--- what follows begin: the levels, the transitions, the holds
+-- all holds
+pub all-holds-short : (t : Tree) → length (joined nodes (writtenHold t)) ≤ nodes * 4
+all-holds-short t = joined-short 4 nodes (writtenHold t) (hold-short t)
+
+-- what follows begin: the levels, the transitions, the holds, the leaving costs
 abbrev rest : Tree → List ℕ
-rest t = joined levels (writtenLevel t) ++ (joined nodes (writtenArrows t) ++ joined nodes (writtenHold t))
+rest t =
+    joined levels (writtenLevel t)
+    ++ (joined nodes (writtenArrows t) ++ (joined nodes (writtenHold t) ++ joined machines (writtenLeave t)))
 
 pub whole-stream : (t : Tree) {m f : ℕ} → m ≡ t .root → t .start (t .root) ≡ some f → (0x10 ∷ m ∷ pair f) ++ rest t ≡ written t
 unfolding written

@@ -1,4 +1,4 @@
-// The stream that Write gives for the tree of a well-formed book (document 01, "Writing, choosing, the session"; document 02, W-205).
+// The stream that Write gives for the tree of a well-formed book (document 01, "Writing, choosing, the session"; document 02, W-205, W-207).
 ghost use mathlib.Core.Path.{_≡_};
 ghost use mathlib.Core.List.{_∷_, _++_};
 ghost use Prim.Native.Nat.{_+_, _*_, _/_, _%_, _^_, _≤_, _<_};
@@ -7,7 +7,7 @@ ghost use Rattle.definitions.specs.Basics.{joined};
 ghost use Rattle.definitions.specs.Limits.{machines, nodes, commands, levels};
 ghost use Rattle.definitions.specs.Tree.{UsedNode, level};
 ghost use Rattle.definitions.specs.Book.{treeOf, WellFormed};
-ghost use Rattle.definitions.specs.Write.{pair, writtenAdd, writtenRefine, writtenArrow, writtenHold, written, WriteSays};
+ghost use Rattle.definitions.specs.Write.{pair, writtenAdd, writtenRefine, writtenArrow, writtenHold, writtenLeave, written, WriteSays};
 ghost use Rattle.book.specs.Decides.{Decides};
 ghost use Rattle.storing.specs.Stored.{Stored};
 ghost use Rattle.writing.specs.Meaning.{Levels, writtenLevel, writtenArrows, answerOf};
@@ -23,7 +23,7 @@ pub enum WriteAnswer {
 }
 
 // The most bytes that a stream of Write has.
-const LONGEST: usize = 34812;
+const LONGEST: usize = 34938;
 
 // The level of node n's machine, if n is in use.
 fn node_level(book: &[u32], n: u32) -> u32
@@ -50,14 +50,14 @@ fn node_levels(book: &[u32]) -> [u32; 256]
     list
 }
 
-// Stores begin or add at a place, as far as the list goes; the next place. Opcode, machine, node.
-fn put_place(out: &mut [u8], at: usize, op: u32, m: u32, n: u32) -> usize
-    requires { ⌜ (at + 4 < 2 ^ 64) × (op < 256) × (m < machines) × (n < nodes) ⌝ }
-    ensures { λ r. ⌜ Stored (now (out .entry)) at (op ∷ m ∷ pair n) r (now (out .exit)) ⌝ }
+// Stores begin, add or leave at a place, as far as the list goes; the next place. Opcode, machine, and a node or a cost.
+fn put_machine_pair(out: &mut [u8], at: usize, op: u32, m: u32, v: u32) -> usize
+    requires { ⌜ (at + 4 < 2 ^ 64) × (op < 256) × (m < machines) × (v < 65536) ⌝ }
+    ensures { λ r. ⌜ Stored (now (out .entry)) at (op ∷ m ∷ pair v) r (now (out .exit)) ⌝ }
 {
     let machine = put_byte(out, at, op);
-    let node = put_byte(out, machine, m);
-    put_pair(out, node, n)
+    let value = put_byte(out, machine, m);
+    put_pair(out, value, v)
 }
 
 // The same for refine: node, machine, its start node.
@@ -88,7 +88,7 @@ fn node_add(book: &[u32], list: &[u32; 256], l: u32, n: u32, out: &mut [u8], at:
     if s == n {
         return at;
     }
-    put_place(out, at, 0x11, m, n)
+    put_machine_pair(out, at, 0x11, m, n)
 }
 
 // Refine, if n is refined and at level l.
@@ -129,6 +129,18 @@ fn node_hold(book: &[u32], n: u32, out: &mut [u8], at: usize) -> usize
         return at;
     }
     put_node_byte(out, at, 0x1A, n, 1)
+}
+
+// Leave, if leaving m costs something.
+fn machine_leave(book: &[u32], m: u32, out: &mut [u8], at: usize) -> usize
+    requires { ⌜ WellFormed (now book) × (m < machines) × (at + 4 < 2 ^ 64) ⌝ }
+    ensures { λ r. ⌜ Stored (now (out .entry)) at (writtenLeave (treeOf (now (book .entry))) m) r (now (out .exit)) ⌝ }
+{
+    let v = book::leave(book, m);
+    if v == 0 {
+        return at;
+    }
+    put_machine_pair(out, at, 0x1B, m, v)
 }
 
 // The adds of level l, by rising node.
@@ -217,6 +229,20 @@ fn all_holds(book: &[u32], out: &mut [u8], at: usize) -> usize
     p
 }
 
+// What leaving costs where that is not 0, by machine.
+fn all_leaves(book: &[u32], out: &mut [u8], at: usize) -> usize
+    requires { ⌜ WellFormed (now book) × (at + machines * 4 < 2 ^ 64) ⌝ }
+    ensures { λ r. ⌜ Stored (now (out .entry)) at (joined machines (writtenLeave (treeOf (now (book .entry))))) r (now (out .exit)) ⌝ }
+{
+    let mut p = at;
+    let mut m = 0u32;
+    while m < book::MACHINES {
+        p = machine_leave(book, m, out, p);
+        m += 1;
+    }
+    p
+}
+
 // Stores the stream at the front of a list, as far as the list goes; the stream's length.
 fn put_stream(book: &[u32], out: &mut [u8]) -> usize
     requires { ⌜ WellFormed (now book) ⌝ }
@@ -224,10 +250,11 @@ fn put_stream(book: &[u32], out: &mut [u8]) -> usize
 {
     let m = book::root(book);
     let s = book::start(book, m);
-    let p = put_place(out, 0, 0x10, m, s);
+    let p = put_machine_pair(out, 0, 0x10, m, s);
     let q = all_levels(book, out, p);
     let r = all_arrows(book, out, q);
-    all_holds(book, out, r)
+    let h = all_holds(book, out, r);
+    all_leaves(book, out, h)
 }
 
 // The length of the stream.

@@ -3,8 +3,10 @@
 
 pub mod damage;
 pub mod walkers;
+pub mod words;
 
 use himm::{raw, Refusal, Timing};
+use himm_model::book::{hold_at, leave_at};
 use himm_model::flat::Flat;
 use himm_model::import::{Import, Reading};
 use himm_model::sheet::{is_stale, is_true, machine_row, node_row, Exits};
@@ -43,9 +45,55 @@ pub fn plan(holding: &Holding, from: u32, to: u32) -> Result<(u32, Vec<u8>), Ref
     himm::plan(&holding.book, &holding.sheet, from, to, &mut buffer).map(|plan| (plan.cost, plan.commands.to_vec()))
 }
 
+/// What a load of further commands into the mast book answers: bytes, commands and the refusal or 0.
+pub fn answer(more: &str) -> (u64, u64, u32) {
+    let loaded = mast("").load(&hex(more));
+    (loaded.bytes, loaded.commands, loaded.number)
+}
+
+/// The exit costs of a machine of the mast book for its commands 0, 1 and 2.
+pub fn exits(holding: &Holding, machine: u32) -> [Result<u32, Refusal>; 3] {
+    [0, 1, 2].map(|x| himm::exit(&holding.book, &holding.sheet, machine, x))
+}
+
 /// The bytes of a hold of 1 or 0 on a node.
 pub fn hold(node: usize, hold: usize) -> Vec<u8> {
     Command::Hold { node, hold }.bytes()
+}
+
+/// The bytes of a cost of leaving a machine.
+pub fn leave(machine: usize, cost: usize) -> Vec<u8> {
+    Command::Leave { machine, cost }.bytes()
+}
+
+/// A chain of eight levels, refreshed: machine k has the start node k, which holds the next machine, and a second node 100 + k.
+pub fn chain_of_pairs() -> Holding {
+    let chain: Vec<u8> = (0..7).flat_map(|k| [0x12, 0, k, k + 1, 0, k + 1]).collect();
+    let more: Vec<u8> = (0..8).flat_map(|k| [0x11, k, 0, 100 + k]).collect();
+    Holding::loaded(&[chain, more].concat())
+}
+
+/// The commands that a book's stream ends in: its holds by node, and then its costs of leaving by machine.
+pub fn last_commands(book: &[u32]) -> Vec<u8> {
+    let held = (0..NODES).filter(|&n| book[hold_at(n)] == 1).flat_map(|n| hold(n, 1));
+    let left = (0..MACHINES).filter(|&m| book[leave_at(m)] != 0).flat_map(|m| leave(m, book[leave_at(m)] as usize));
+    held.chain(left).collect()
+}
+
+/// The states of a book, as the calls take them.
+pub fn states(tree: &Tree) -> Vec<u32> {
+    tree.states().into_iter().map(|s| s as u32).collect()
+}
+
+/// For how many pairs of states the least cost is another one than in another tree of the same states, and for how many there is no way.
+pub fn changed_pairs(tree: &Tree, other: &Tree) -> [usize; 2] {
+    let (flat, plainer) = (Flat::of(&book::encode(tree)), Flat::of(&book::encode(other)));
+    let mut changed = [0; 2];
+    for from in tree.states() {
+        let pairs = flat.costs_from(from).into_iter().zip(plainer.costs_from(from));
+        pairs.for_each(|(now, before)| changed[now.is_none() as usize] += (now != before) as usize);
+    }
+    changed
 }
 
 /// How often each of some answers was given.
@@ -213,6 +261,14 @@ impl Holding {
                 self.compare_plan(view, from, to, himm::PLAN_BYTES);
             }
         }
+    }
+
+    /// Plans between all pairs of states, and every exit and step.
+    pub fn compare_all_pairs(&self) {
+        let view = self.view();
+        self.compare_plans(&view, &states(&self.tree()));
+        self.compare_exits(&view);
+        self.compare_steps(&view);
     }
 
     /// The refusal or the least cost is the model's; the list leads there at that cost and passes no state twice.

@@ -1,7 +1,7 @@
--- `book::clear_machine` meets its contract: its two stores. Assumes nothing.
+-- `book::clear_machine` meets its contract: its three stores. Assumes nothing.
 use mathlib.Core.Option.{none}
 use borrow.Author.Needs.{needs}
-use Rattle.definitions.specs.Tree.{withStartOf}
+use Rattle.definitions.specs.Tree.{withStartOf, withLeave}
 use Rattle.definitions.specs.Book.{number}
 use Rattle.book.proofs.Stores.{holds-then}
 use Rattle.book.proofs.clear_machine.Statement.{statement}
@@ -13,16 +13,22 @@ set-holder-requires c κs = search needs
 set-start-requires : tie.Need-set-start-requires
 set-start-requires c κs = search needs
 
+set-leave-requires : tie.Need-set-leave-requires
+set-leave-requires c κs = search needs
+
 same-length : tie.Need-same-length
 same-length c = search needs
 
 returns : tie.Need-returns
 unfolding number
 returns c =
-    let holder = c .before .before .before .before in
+    let start = c .before .before .before .before in
+    let holder = start .before .before .before .before in
     let m = holder .before .before .before .before .before .args .m in
-    holds-then (λ t. withStartOf t m none) (holder .before .before .set-holder .ensures) (c .before .before .set-start .ensures)
+    holds-then (λ t. withLeave t m 0)
+    (holds-then (λ t. withStartOf t m none) (holder .before .before .set-holder .ensures) (start .before .before .set-start .ensures))
+    (c .before .before .set-leave .ensures)
 
 pub clear-machine-spec : {M : Type 1} → statement M
 clear-machine-spec =
-    tie.close (tie.spec set-holder-requires set-start-requires same-length returns)
+    tie.close (tie.spec set-holder-requires set-start-requires set-leave-requires same-length returns)

@@ -6,7 +6,7 @@ use native.Mathlib.Omega.{arith}
 use lib.ListN.{length}
 use borrow.Author.Needs.{needs}
 use denote.Ref.{now}
-use Rattle.definitions.specs.Limits.{largestCost, longestList}
+use Rattle.definitions.specs.Limits.{largestStepCost, longestList}
 use Rattle.definitions.specs.Book.{treeOf}
 use Rattle.definitions.specs.Calls.{StepSays}
 use Rattle.definitions.proofs.Answers.{StepDone, step-done, done-moved, done-stopped}
@@ -91,7 +91,7 @@ next : (c : tie.After-wide Inv-loop μ-loop)
     let l = n .before .before .before .before .before .before .before in
     let e = l .before .before .before .before in
     Upto (treeOf (now (e .args .book))) (e .args .a) (e .args .b) (now (e .args .list)) (n .next .given .0 .0) (l .loop .i + 1) (l .loop .cost + c .wide .result)
-    × (l .loop .cost + c .wide .result ≤ 65536 * largestCost)
+    × (l .loop .cost + c .wide .result ≤ 65536 * largestStepCost)
     × (l .loop .i < min (length (now (e .args .list))) longestList)
 next c =
     let n = c .before .before in

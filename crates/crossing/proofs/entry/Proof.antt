@@ -1,12 +1,12 @@
 -- `crossing::entry` meets its contract: what is stored is the move by what the command finds, where the node is left. Assumes nothing.
-use mathlib.Core.Path.{refl, sym, _∙_}
+use mathlib.Core.Path.{refl, _∙_}
 use native.Mathlib.Omega.{arith}
 use denote.Ref.{now}
 use borrow.Author.Needs.{needs}
 use Rattle.definitions.specs.Book.{treeOf}
 use Rattle.definitions.specs.Sheet.{rowsOf}
 use Rattle.search.proofs.Tables.{place-target, place-price, entry-stored}
-use Rattle.crossing.proofs.Tabling.{finds-node, move-parts}
+use Rattle.crossing.proofs.Tabling.{finds-fits, move-parts}
 use Rattle.crossing.proofs.entry.Statement.{statement}
 use Rattle.crossing.proofs.entry.Tie as tie
 
@@ -22,7 +22,7 @@ priced-requires : tie.Need-priced-requires
 priced-requires c κs =
     let e = c .before .before .before .before .before .before .before .before in (
       record { is = refl; small = c .own-exit .ensures .small },
-      λ a says. finds-node (e .pre .0 .well-formed .sound) (e .pre .1) (e .args .n) (e .args .x) (sym (c .before .find .ensures) ∙ says),
+      finds-fits (e .pre .0 .well-formed .sound) (e .pre .1) (e .args .n) (e .args .x) (c .before .find .result) (c .before .find .ensures),
     )
 
 mul-i : tie.Need-mul-i

@@ -1,5 +1,5 @@
 -- `editing::do_add` meets its contract: the machines over the start node are marked, and the new node gets its owner. Assumes nothing.
-use Rattle.editing.proofs.Done.{add-done, add-taken, add-used}
+use Rattle.editing.proofs.Done.{add-done, add-taken, start-used}
 use borrow.Author.Needs.{needs}
 use Rattle.editing.proofs.do_add.Statement.{statement}
 use Rattle.editing.proofs.do_add.Tie as tie
@@ -12,7 +12,7 @@ start-requires c κs =
 touch-requires : tie.Need-touch-requires
 touch-requires c κs =
     let e = c .before .before .before .before .before in
-    (e .pre .formed, e .pre .filled, add-used (e .pre) (c .start .ensures))
+    (e .pre .formed, e .pre .filled, start-used (e .pre .formed .sound) (e .args .m) (add-taken (e .pre) .machine-used) (c .start .ensures))
 
 set-owner-requires : tie.Need-set-owner-requires
 set-owner-requires c κs =

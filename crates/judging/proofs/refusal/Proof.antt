@@ -62,6 +62,12 @@ enum-known-command-9 c = search needs
 judge-hold-requires : tie.Need-judge-hold-requires
 judge-hold-requires c κs = search needs
 
+enum-known-command-10 : tie.Need-enum-known-command-10
+enum-known-command-10 c = search needs
+
+judge-leave-requires : tie.Need-judge-leave-requires
+judge-leave-requires c κs = search needs
+
 returns : tie.Need-returns
 returns c = rw (c .before .before .command .given .1) (c .judge-begin .ensures _)
 
@@ -92,6 +98,9 @@ returns-9 c = rw (c .enum-told .given .1) (sym (taken-refresh _))
 returns-10 : tie.Need-returns-10
 returns-10 c = rw (c .before .before .command9 .given .1) (c .judge-hold .ensures)
 
+returns-11 : tie.Need-returns-11
+returns-11 c = rw (c .before .before .command10 .given .1) (c .judge-leave .ensures _)
+
 pub refusal-spec : {M : Type 1} → statement M
 refusal-spec =
     tie.close
@@ -115,6 +124,8 @@ refusal-spec =
     enum-told
     enum-known-command-9
     judge-hold-requires
+    enum-known-command-10
+    judge-leave-requires
     returns
     returns-2
     returns-3
@@ -124,4 +135,5 @@ refusal-spec =
     returns-7
     returns-8
     returns-9
-    returns-10)
+    returns-10
+    returns-11)

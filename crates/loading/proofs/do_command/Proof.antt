@@ -71,6 +71,12 @@ enum-known-command-9 c = search needs
 do-hold-requires : tie.Need-do-hold-requires
 do-hold-requires c κs = ready (c .before .before .before .before .before .before .before .pre) (c .before .before .before .command9 .given .1) refl
 
+enum-known-command-10 : tie.Need-enum-known-command-10
+enum-known-command-10 c = search needs
+
+do-leave-requires : tie.Need-do-leave-requires
+do-leave-requires c κs = ready (c .before .before .before .before .before .before .before .pre) (c .before .before .before .command10 .given .1) refl
+
 same-length : tie.Need-same-length
 same-length c = search needs
 
@@ -199,6 +205,19 @@ returns-10 c =
     let told = d .before .before .before .before .command9 .given .1 in
     edit-done p told refl tt (d .do-hold .ensures)
 
+same-length-21 : tie.Need-same-length-21
+same-length-21 c = search needs
+
+same-length-22 : tie.Need-same-length-22
+same-length-22 c = search needs
+
+returns-11 : tie.Need-returns-11
+returns-11 c =
+    let d = c .before .before .before .before in
+    let p = d .before .before .before .before .before .before .before .before .pre in
+    let told = d .before .before .before .before .command10 .given .1 in
+    edit-done p told refl (narrow p told .1) (d .do-leave .ensures)
+
 pub do-command-spec : {M : Type 1} → statement M
 do-command-spec =
     tie.close
@@ -223,6 +242,8 @@ do-command-spec =
     refresh-requires
     enum-known-command-9
     do-hold-requires
+    enum-known-command-10
+    do-leave-requires
     same-length
     same-length-2
     returns
@@ -252,4 +273,7 @@ do-command-spec =
     returns-9
     same-length-19
     same-length-20
-    returns-10)
+    returns-10
+    same-length-21
+    same-length-22
+    returns-11)

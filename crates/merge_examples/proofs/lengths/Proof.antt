@@ -5,10 +5,10 @@ use Rattle.merge_examples.proofs.lengths.Statement.{statement}
 use Rattle.merge_examples.proofs.lengths.Tie as tie
 
 abbrev Inv-loop : tie.InvT-loop
-Inv-loop mast long₀ i₀ long i = i ≤ 4993
+Inv-loop mast long₀ i₀ long i = i ≤ 5057
 
 abbrev μ-loop : tie.MeasureT-loop
-μ-loop mast long₀ i₀ long i = 4993 - i
+μ-loop mast long₀ i₀ long i = 5057 - i
 
 loop-holds : tie.Need-loop-holds Inv-loop μ-loop
 loop-holds c = search needs

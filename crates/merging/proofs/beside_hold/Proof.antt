@@ -1,7 +1,7 @@
 -- `merging::beside_hold` meets its contract: the first book's hold, and that of the node that moved there. Assumes nothing.
 use native.Mathlib.Omega.{arith}
 use borrow.Author.Needs.{needs}
-use Rattle.merging.proofs.Beside.{hold-own, hold-from, hold-fits, hold-moved}
+use Rattle.merging.proofs.Beside.{sum-own, sum-from, sum-fits, sum-moved, hold-sums}
 use Rattle.merging.proofs.beside_hold.Statement.{statement}
 use Rattle.merging.proofs.beside_hold.Tie as tie
 
@@ -18,25 +18,29 @@ returns : tie.Need-returns
 returns c =
     let o = c .before .before in
     let e = o .before .before .before .before in
-    hold-own (e .pre .0) (e .pre .1) (e .args .n) (o .hold .ensures) (e .pre .2 .word (e .args .n) (e .pre .3)) (c .if1 .taken)
+    let came = e .pre .2 .word (e .args .n) (e .pre .3) in
+    λ s. sum-own (hold-sums (e .pre .0) (e .pre .1) s) (e .args .n) (o .hold .ensures) came (c .if1 .taken)
 
 hold-requires-2 : tie.Need-hold-requires-2
 hold-requires-2 c κs =
     let o = c .before .before in
     let e = o .before .before .before .before in
-    (e .pre .1 .length, hold-from (e .pre .0) (e .pre .1) (e .args .n) (o .hold .ensures) (e .pre .2 .word (e .args .n) (e .pre .3)) (c .if1 .left))
+    let came = e .pre .2 .word (e .args .n) (e .pre .3) in
+    (e .pre .1 .length, sum-from (hold-sums (e .pre .0) (e .pre .1) 0) (e .args .n) (o .hold .ensures) came (c .if1 .left))
 
 add-result : tie.Need-add-result
 add-result c =
     let o = c .before .before .before in
     let e = o .before .before .before .before in
-    omega (arith, hold-fits (e .pre .0) (e .pre .1) (e .args .n) (o .hold .ensures) (e .pre .2 .word (e .args .n) (e .pre .3)) (c .before .if1 .left) (c .hold2 .ensures))
+    let came = e .pre .2 .word (e .args .n) (e .pre .3) in
+    omega (arith, sum-fits (hold-sums (e .pre .0) (e .pre .1) 0) (e .args .n) (o .hold .ensures) came (c .before .if1 .left) (c .hold2 .ensures))
 
 returns-2 : tie.Need-returns-2
 returns-2 c =
     let o = c .before .before .before in
     let e = o .before .before .before .before in
-    hold-moved (e .pre .0) (e .pre .1) (e .args .n) (o .hold .ensures) (e .pre .2 .word (e .args .n) (e .pre .3)) (c .before .if1 .left) (c .hold2 .ensures)
+    let came = e .pre .2 .word (e .args .n) (e .pre .3) in
+    λ s. sum-moved (hold-sums (e .pre .0) (e .pre .1) s) (e .args .n) (o .hold .ensures) came (c .before .if1 .left) (c .hold2 .ensures)
 
 pub beside-hold-spec : {M : Type 1} → statement M
 beside-hold-spec =

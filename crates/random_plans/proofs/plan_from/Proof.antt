@@ -5,25 +5,19 @@ use Rattle.random_plans.proofs.plan_from.Statement.{statement}
 use Rattle.random_plans.proofs.plan_from.Tie as tie
 
 abbrev Inv-loop : tie.InvT-loop
-Inv-loop book sheet s moves released a room tally₀ costs others b₀ tally b = Unit {0}
+Inv-loop book sheet s moves a room tally₀ costs b₀ tally b = Unit {0}
 
 abbrev μ-loop : tie.MeasureT-loop
-μ-loop book sheet s moves released a room tally₀ costs others b₀ tally b = 256 - b
+μ-loop book sheet s moves a room tally₀ costs b₀ tally b = 256 - b
 
 distances-requires : tie.Need-distances-requires Inv-loop μ-loop
 distances-requires c κs = search needs
-
-distances-requires-2 : tie.Need-distances-requires-2 Inv-loop μ-loop
-distances-requires-2 c κs = search needs
 
 loop-holds : tie.Need-loop-holds Inv-loop μ-loop
 loop-holds c = search needs
 
 is-state-requires : tie.Need-is-state-requires Inv-loop μ-loop
 is-state-requires c κs = search needs
-
-count-holds-requires : tie.Need-count-holds-requires Inv-loop μ-loop
-count-holds-requires c κs = search needs
 
 compare-plan-requires : tie.Need-compare-plan-requires Inv-loop μ-loop
 compare-plan-requires c κs = search needs
@@ -47,10 +41,8 @@ plan-from-spec =
     Inv-loop
     μ-loop
     distances-requires
-    distances-requires-2
     loop-holds
     is-state-requires
-    count-holds-requires
     compare-plan-requires
     add-b
     loop-less

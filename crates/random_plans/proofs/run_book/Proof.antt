@@ -10,9 +10,6 @@ Inv-loop book₀ sheet₀ s₀ seed₀ shape tally₀ ladder streams i₀ book s
 abbrev μ-loop : tie.MeasureT-loop
 μ-loop book₀ sheet₀ s₀ seed₀ shape tally₀ ladder streams i₀ book sheet s seed tally i = streams - i
 
-count-requires : tie.Need-count-requires Inv-loop μ-loop
-count-requires c κs = search needs
-
 of-requires : tie.Need-of-requires Inv-loop μ-loop
 of-requires c κs = search needs
 
@@ -43,6 +40,9 @@ loop-less c = search needs
 loop-again : tie.Need-loop-again Inv-loop μ-loop
 loop-again c = search needs
 
+count-book-requires : tie.Need-count-book-requires Inv-loop μ-loop
+count-book-requires c κs = search needs
+
 returns : tie.Need-returns Inv-loop μ-loop
 returns c = search needs
 
@@ -52,7 +52,6 @@ run-book-spec =
     (tie.spec
     Inv-loop
     μ-loop
-    count-requires
     of-requires
     once-in-requires
     open-requires
@@ -63,4 +62,5 @@ run-book-spec =
     add-i
     loop-less
     loop-again
+    count-book-requires
     returns)

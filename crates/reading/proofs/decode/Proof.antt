@@ -89,6 +89,14 @@ operand-requires-7 : tie.Need-operand-requires-7
 unfolding operandLength
 operand-requires-7 c κs = omega (arith, c .before .before .before .pre 3 (ap operandLength (c .before .match .keys10)))
 
+operand-requires-8 : tie.Need-operand-requires-8
+unfolding operandLength
+operand-requires-8 c κs = omega (arith, c .before .before .pre 3 (ap operandLength (c .match .keys11)))
+
+operand-pair-requires-13 : tie.Need-operand-pair-requires-13
+unfolding operandLength
+operand-pair-requires-13 c κs = omega (arith, c .before .before .before .pre 3 (ap operandLength (c .before .match .keys11)))
+
 returns : tie.Need-returns
 unfolding decode
 returns c =
@@ -160,15 +168,22 @@ returns-10 c =
 
 returns-11 : tie.Need-returns-11
 unfolding decode
-returns-11 c = (rw (c .match .keys11), tt)
+returns-11 c =
+    let machine = c .before .operand8 .ensures in
+    let cost = c .operand-pair13 .ensures in
+    (rw (c .before .before .match .keys11, machine .0, cost .0), (machine .1, cost .1))
 
 returns-12 : tie.Need-returns-12
-returns-12 c =
+unfolding decode
+returns-12 c = (rw (c .match .keys12), tt)
+
+returns-13 : tie.Need-returns-13
+returns-13 c =
     let r = c .match .rest .0 in
     let a = c .before .before .args in
     let none-known =
-    unknown (a .op) (r .0 .0 .0 .0 .0 .0 .0 .0 .0 .1) (r .0 .0 .0 .0 .0 .0 .0 .0 .1) (r .0 .0 .0 .0 .0 .0 .0 .1) (r .0 .0 .0 .0 .0 .0 .1)
-    (r .0 .0 .0 .0 .0 .1) (r .0 .0 .0 .0 .1) (r .0 .0 .0 .1) (r .0 .0 .1) (r .0 .1) (r .1) in
+    unknown (a .op) (r .0 .0 .0 .0 .0 .0 .0 .0 .0 .0 .1) (r .0 .0 .0 .0 .0 .0 .0 .0 .0 .1) (r .0 .0 .0 .0 .0 .0 .0 .0 .1) (r .0 .0 .0 .0 .0 .0 .0 .1)
+    (r .0 .0 .0 .0 .0 .0 .1) (r .0 .0 .0 .0 .0 .1) (r .0 .0 .0 .0 .1) (r .0 .0 .0 .1) (r .0 .0 .1) (r .0 .1) (r .1) in
     (sym (unknown-undecoded (a .op) (drop (a .at + 1) (now (a .stream))) none-known), tt)
 
 pub decode-spec : {M : Type 1} → statement M
@@ -194,6 +209,8 @@ decode-spec =
     operand-pair-requires-11
     operand-pair-requires-12
     operand-requires-7
+    operand-requires-8
+    operand-pair-requires-13
     returns
     returns-2
     returns-3
@@ -205,4 +222,5 @@ decode-spec =
     returns-9
     returns-10
     returns-11
-    returns-12)
+    returns-12
+    returns-13)

@@ -46,7 +46,7 @@ write-nodes-requires c κs =
     let at-find = at-dist2 .before .before .before .before .before .before .before in
     let entry = at-find .before .before .before .before .before .before .before .before .before .before .before .before .before in
     let p = entry .pre in
-    (p .1 .length, searches-writable (p .0 .sound) (p .3 .used .1) (at-find .find .ensures))
+    (p .1 .length, searches-writable (p .0 .sound) (p .3 .used .1) (at-find .find .ensures) (p .1 .rows) (p .3))
 
 slice-aggregate-write-exits : tie.Need-slice-aggregate-write-exits
 slice-aggregate-write-exits c = search needs

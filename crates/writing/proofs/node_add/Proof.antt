@@ -54,13 +54,17 @@ returns-3 c =
     let here = sym (e .pre .1 .at (e .args .n) (e .pre .2) (o .before .owner .result, own)) ∙ h .if2 .left in
     stored-none (now (e .args .out)) (e .args .at) (add-start t (e .args .l) (e .args .n) own st here (c .if3 .taken))
 
-put-place-requires : tie.Need-put-place-requires
-put-place-requires c κs =
+put-machine-pair-requires : tie.Need-put-machine-pair-requires
+put-machine-pair-requires c κs =
     let o = c .before .before .before .before .before in
     let e = o .before .before .before .before in
     let t = treeOf (now (e .args .book)) in
-    let own = present-word (t .owner (e .args .n)) (o .before .owner .ensures) (o .if1 .left) in
-    (e .pre .3, omega arith, owner-range t (e .pre .0 .sound) (e .args .n) (o .before .owner .result) own .1, e .pre .2)
+    let own = present-word (t .owner (e .args .n)) (o .before .owner .ensures) (o .if1 .left) in (
+      e .pre .3,
+      omega arith,
+      owner-range t (e .pre .0 .sound) (e .args .n) (o .before .owner .result) own .1,
+      omega (arith, e .pre .2),
+    )
 
 same-length : tie.Need-same-length
 same-length c = search needs
@@ -76,7 +80,7 @@ returns-4 c =
     let own = present-word (t .owner (e .args .n)) (o .before .owner .ensures) (o .if1 .left) in
     let st = start-of-owner (e .pre .0 .sound) own (d .before .start .ensures) in
     let here = sym (e .pre .1 .at (e .args .n) (e .pre .2) (o .before .owner .result, own)) ∙ h .if2 .left in
-    stored-is (a .put-place .ensures) (add-node t (e .args .l) (e .args .n) own st here (d .if3 .left))
+    stored-is (a .put-machine-pair .ensures) (add-node t (e .args .l) (e .args .n) own st here (d .if3 .left))
 
 pub node-add-spec : {M : Type 1} → statement M
 node-add-spec =
@@ -89,6 +93,6 @@ node-add-spec =
     returns-2
     start-requires
     returns-3
-    put-place-requires
+    put-machine-pair-requires
     same-length
     returns-4)

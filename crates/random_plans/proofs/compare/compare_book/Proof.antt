@@ -8,7 +8,7 @@ abbrev Inv-loop : tie.InvT-loop
 Inv-loop book s tally₀ i₀ t5 tally i = Unit {0}
 
 abbrev μ-loop : tie.MeasureT-loop
-μ-loop book s tally₀ i₀ t5 tally i = 4993 - i
+μ-loop book s tally₀ i₀ t5 tally i = 5057 - i
 
 loop-holds : tie.Need-loop-holds Inv-loop μ-loop
 loop-holds c = search needs

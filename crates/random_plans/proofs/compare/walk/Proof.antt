@@ -5,10 +5,10 @@ use Rattle.random_plans.proofs.compare.walk.Statement.{statement}
 use Rattle.random_plans.proofs.compare.walk.Tie as tie
 
 abbrev Inv-loop : tie.InvT-loop
-Inv-loop s buffer a count seen₀ at₀ sum₀ i₀ seen at sum i = Unit {0}
+Inv-loop s buffer a count seen₀ at₀ sum₀ dearest₀ i₀ seen at sum dearest i = Unit {0}
 
 abbrev μ-loop : tie.MeasureT-loop
-μ-loop s buffer a count seen₀ at₀ sum₀ i₀ seen at sum i = 255 - i
+μ-loop s buffer a count seen₀ at₀ sum₀ dearest₀ i₀ seen at sum dearest i = 255 - i
 
 visit-requires : tie.Need-visit-requires Inv-loop μ-loop
 visit-requires c κs = search needs
@@ -33,6 +33,9 @@ step-requires c κs = search needs
 
 plus-requires : tie.Need-plus-requires Inv-loop μ-loop
 plus-requires c κs = search needs
+
+larger-requires : tie.Need-larger-requires Inv-loop μ-loop
+larger-requires c κs = search needs
 
 visit-requires-2 : tie.Need-visit-requires-2 Inv-loop μ-loop
 visit-requires-2 c κs = search needs
@@ -66,6 +69,7 @@ walk-spec =
     wide-requires
     step-requires
     plus-requires
+    larger-requires
     visit-requires-2
     returns-2
     add-i

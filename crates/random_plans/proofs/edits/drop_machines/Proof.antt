@@ -28,6 +28,9 @@ put-requires-2 c κs = search needs
 put-requires-3 : tie.Need-put-requires-3 Inv-loop μ-loop
 put-requires-3 c κs = search needs
 
+put-requires-4 : tie.Need-put-requires-4 Inv-loop μ-loop
+put-requires-4 c κs = search needs
+
 add-m : tie.Need-add-m Inv-loop μ-loop
 add-m c = search needs
 
@@ -52,6 +55,7 @@ drop-machines-spec =
     put-requires
     put-requires-2
     put-requires-3
+    put-requires-4
     add-m
     loop-less
     loop-again

@@ -5,10 +5,10 @@ use Rattle.random_plans.proofs.stream.run.Statement.{statement}
 use Rattle.random_plans.proofs.stream.run.Tie as tie
 
 abbrev Inv-loop : tie.InvT-loop
-Inv-loop s₀ stream length bytes₀ commands₀ holds₀ s bytes commands holds = bytes ≤ 16 * commands
+Inv-loop s₀ stream length bytes₀ commands₀ holds₀ charges₀ s bytes commands holds charges = bytes ≤ 16 * commands
 
 abbrev μ-loop : tie.MeasureT-loop
-μ-loop s₀ stream length bytes₀ commands₀ holds₀ s bytes commands holds = 8192 - commands
+μ-loop s₀ stream length bytes₀ commands₀ holds₀ charges₀ s bytes commands holds charges = 8192 - commands
 
 loop-holds : tie.Need-loop-holds Inv-loop μ-loop
 loop-holds c = search needs
@@ -30,6 +30,12 @@ cast-holds c = search needs
 
 add-holds : tie.Need-add-holds Inv-loop μ-loop
 add-holds c = search needs
+
+cast-charges : tie.Need-cast-charges Inv-loop μ-loop
+cast-charges c = search needs
+
+add-charges : tie.Need-add-charges Inv-loop μ-loop
+add-charges c = search needs
 
 loop-less : tie.Need-loop-less Inv-loop μ-loop
 loop-less c = search needs
@@ -53,6 +59,8 @@ run-spec =
     add-commands
     cast-holds
     add-holds
+    cast-charges
+    add-charges
     loop-less
     loop-again
     returns-2)

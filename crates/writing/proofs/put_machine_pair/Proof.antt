@@ -1,8 +1,8 @@
--- `writing::put_place` meets its contract: its bytes are stored one after the other. Assumes nothing.
+-- `writing::put_machine_pair` meets its contract: its bytes are stored one after the other. Assumes nothing.
 use borrow.Author.Needs.{needs}
 use Rattle.storing.proofs.Laws.{stored-then}
-use Rattle.writing.proofs.put_place.Statement.{statement}
-use Rattle.writing.proofs.put_place.Tie as tie
+use Rattle.writing.proofs.put_machine_pair.Statement.{statement}
+use Rattle.writing.proofs.put_machine_pair.Tie as tie
 
 put-byte-requires : tie.Need-put-byte-requires
 put-byte-requires c κs = search needs
@@ -23,7 +23,7 @@ returns c =
     let a = b .before .before .before .before in
     stored-then (a .put-byte .ensures) (stored-then (b .put-byte2 .ensures) (d .put-pair .ensures))
 
-pub put-place-spec : {M : Type 1} → statement M
-put-place-spec =
+pub put-machine-pair-spec : {M : Type 1} → statement M
+put-machine-pair-spec =
     tie.close
     (tie.spec put-byte-requires put-byte-requires-2 put-pair-requires same-length returns)

@@ -1,8 +1,8 @@
--- `random_plans::station::any_one` is safe and ends. Assumes nothing.
+-- `random_plans::station::any_set` is safe and ends. Assumes nothing.
 use Prim.Native.Nat.{_-_}
 use borrow.Author.Needs.{needs}
-use Rattle.random_plans.proofs.station.any_one.Statement.{statement}
-use Rattle.random_plans.proofs.station.any_one.Tie as tie
+use Rattle.random_plans.proofs.station.any_set.Statement.{statement}
+use Rattle.random_plans.proofs.station.any_set.Tie as tie
 
 abbrev Inv-loop : tie.InvT-loop
 Inv-loop s field i₀ i = Unit {0}
@@ -31,7 +31,7 @@ loop-again c = search needs
 returns-2 : tie.Need-returns-2 Inv-loop μ-loop
 returns-2 c = search needs
 
-pub any-one-spec : {M : Type 1} → statement M
-any-one-spec =
+pub any-set-spec : {M : Type 1} → statement M
+any-set-spec =
     tie.close
     (tie.spec Inv-loop μ-loop loop-holds get-requires returns add-i loop-less loop-again returns-2)

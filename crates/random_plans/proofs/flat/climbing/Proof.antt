@@ -1,0 +1,54 @@
+-- `random_plans::flat::climbing` is safe and ends. Assumes nothing.
+use Prim.Native.Nat.{_-_}
+use borrow.Author.Needs.{needs}
+use Rattle.random_plans.proofs.flat.climbing.Statement.{statement}
+use Rattle.random_plans.proofs.flat.climbing.Tie as tie
+
+abbrev Inv-loop : tie.InvT-loop
+Inv-loop s n acting at₀ sum₀ i₀ at sum i = Unit {0}
+
+abbrev μ-loop : tie.MeasureT-loop
+μ-loop s n acting at₀ sum₀ i₀ at sum i = 8 - i
+
+loop-holds : tie.Need-loop-holds Inv-loop μ-loop
+loop-holds c = search needs
+
+returns : tie.Need-returns Inv-loop μ-loop
+returns c = search needs
+
+leaving-requires : tie.Need-leaving-requires Inv-loop μ-loop
+leaving-requires c κs = search needs
+
+plus-requires : tie.Need-plus-requires Inv-loop μ-loop
+plus-requires c κs = search needs
+
+above-requires : tie.Need-above-requires Inv-loop μ-loop
+above-requires c κs = search needs
+
+add-i : tie.Need-add-i Inv-loop μ-loop
+add-i c = search needs
+
+loop-less : tie.Need-loop-less Inv-loop μ-loop
+loop-less c = search needs
+
+loop-again : tie.Need-loop-again Inv-loop μ-loop
+loop-again c = search needs
+
+returns-2 : tie.Need-returns-2 Inv-loop μ-loop
+returns-2 c = search needs
+
+pub climbing-spec : {M : Type 1} → statement M
+climbing-spec =
+    tie.close
+    (tie.spec
+    Inv-loop
+    μ-loop
+    loop-holds
+    returns
+    leaving-requires
+    plus-requires
+    above-requires
+    add-i
+    loop-less
+    loop-again
+    returns-2)
