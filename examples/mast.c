@@ -3,8 +3,9 @@
 ** from state 0 to state 2 and from state 2 to state 11, with each state that the station passes and the node and level that acted. Then
 ** it imports a probe's timing of node 1's transition and plans from state 0 to state 2 over it. It holds node 11, plans round it, and
 ** releases it. It makes machine 1 dear to leave, plans from state 0 to state 2 past it and from state 11 out of it, and takes the cost
-** back. It lets two walkers go from state 0 with one place inside node 1. Finally it merges the book with itself, and plans from state 0 to
-** state 2 again and between the same states of the twin.
+** back. It lets two walkers go from state 0 with one place inside node 1. It merges the book with itself, and plans from state 0 to state 2
+** again and between the same states of the twin. Finally it opens the ladder of depth 2 from a table of rows, and plans from state 3 to
+** state 8.
 */
 #include <ctype.h>
 #include <stdio.h>
@@ -120,6 +121,14 @@ static void merge_with_itself(void) {
   printf("\n");
 }
 
+/* Opens the ladder of a depth from the rows that the generator writes. */
+static void open_ladder_of(uint32_t depth) {
+  uint32_t rows[HIMM_TABLE_WORDS], length;
+  must("ladder", himm_ladder(depth, rows, HIMM_TABLE_WORDS, &length));
+  must("open from a table", himm_open_table(rows, length, book, HIMM_BOOK_WORDS, sheet, HIMM_SHEET_WORDS));
+  printf("opened the ladder of depth %u from %u rows\n", (unsigned)depth, (unsigned)(length / HIMM_ROW_WORDS));
+}
+
 int main(int argc, char **argv) {
   static const uint8_t refresh[] = {HIMM_REFRESH};
   FILE *text = argc == 2 ? fopen(argv[1], "r") : NULL;
@@ -147,5 +156,8 @@ int main(int argc, char **argv) {
   load(refresh, sizeof refresh);
   show_plan(0, 2);
   show_plan(3, 5);
+  open_ladder_of(2);
+  load(refresh, sizeof refresh);
+  show_plan(3, 8);
   return 0;
 }

@@ -64,7 +64,7 @@ extern "C" {
 /*
 ** Limits. A machine, a node and a command are numbers from 0, each under its limit; a cost of a transition or of leaving a machine is at
 ** most HIMM_LARGEST_COST. The root is at level 1 and no machine is lower than level HIMM_LEVELS. A call takes at most HIMM_WALKERS walkers,
-** and a limit of at most HIMM_WALKERS.
+** and a limit of at most HIMM_WALKERS. A ladder has a depth from 1 to HIMM_LARGEST_DEPTH.
 */
 #define HIMM_MACHINES 64
 #define HIMM_NODES 256
@@ -72,14 +72,17 @@ extern "C" {
 #define HIMM_LEVELS 8
 #define HIMM_LARGEST_COST 65535
 #define HIMM_WALKERS 8
+#define HIMM_LARGEST_DEPTH 6
 
 /*
-** Sizes: the words of a book and of a sheet, which are exact; the bytes of a plan buffer and of an output that are enough for every
-** book, and of an output that are enough for every timing; the largest cost of one command and of a plan; how many commands of a list
-** himm_choose looks at.
+** Sizes: the words of a book and of a sheet, which are exact; the words of a row of a table, and the most words of a table, 189 rows, which
+** are enough for every ladder; the bytes of a plan buffer and of an output that are enough for every book, and of an output that are enough
+** for every timing; the largest cost of one command and of a plan; how many commands of a list himm_choose looks at.
 */
 #define HIMM_BOOK_WORDS 5057
 #define HIMM_SHEET_WORDS 2880
+#define HIMM_ROW_WORDS 3
+#define HIMM_TABLE_WORDS 567
 #define HIMM_PLAN_BYTES 255
 #define HIMM_STREAM_BYTES 34938
 #define HIMM_IMPORT_BYTES 8
@@ -121,8 +124,8 @@ extern "C" {
 */
 enum himm_refusal {
   HIMM_OK = 0,               /* not refused */
-  HIMM_WRONG_LENGTH = 1,     /* a book or a sheet of a wrong length */
-  HIMM_TORN_BOOK = 2,        /* the book is not well formed */
+  HIMM_WRONG_LENGTH = 1,     /* a book, a sheet or a table of a wrong length */
+  HIMM_TORN_BOOK = 2,        /* the book is not well formed, or no well-formed book comes of the table */
   HIMM_FALSE_SHEET = 3,      /* the sheet is not true of the book */
   HIMM_CUT_SHORT = 4,        /* the stream ends inside a command */
   HIMM_UNKNOWN_OPCODE = 5,   /* a byte that is no opcode */
@@ -144,7 +147,8 @@ enum himm_refusal {
   HIMM_BAD_TIMING = 20,      /* import: the timing gives no cost from 0 to HIMM_LARGEST_COST */
   HIMM_HELD_START = 21,      /* hold: a start node cannot be held; start: a held node cannot become one */
   HIMM_NODE_FULL = 22,       /* walk: the walker would come inside the node, and as many as the limit allows are there */
-  HIMM_TOO_MANY_WALKERS = 23 /* walkers, walk: the limit or the number of walkers is over HIMM_WALKERS, or more than the limit are inside */
+  HIMM_TOO_MANY_WALKERS = 23,/* walkers, walk: the limit or the number of walkers is over HIMM_WALKERS, or more than the limit are inside */
+  HIMM_WRONG_DEPTH = 24      /* ladder: the depth is not from 1 to HIMM_LARGEST_DEPTH */
 };
 
 /*
@@ -160,6 +164,39 @@ enum himm_refusal {
 */
 uint32_t himm_open_fresh(uint32_t *book, size_t book_len, uint32_t *sheet, size_t sheet_len);
 uint32_t himm_open_ladder(uint32_t *book, size_t book_len, uint32_t *sheet, size_t sheet_len);
+
+/*
+** himm_open_table: make the book of a table of rows. Row n is for node n and has HIMM_ROW_WORDS words: the machine that the node belongs
+** to, the machine below it, HIMM_ABSENT for a plain node, and 1 where the node is its machine's start, else 0. An unused row has
+** HIMM_ABSENT, HIMM_ABSENT and 0; the nodes past the last row are not in use either. Neither machines nor nodes need be consecutive. A
+** machine is held by the node whose row has it below; the machine that no row has below is the root, whatever its number. Command 0 goes to
+** the next lower node of the same machine and command 1 to the next higher one, at cost 1, past unused rows and the nodes of other
+** machines. No node is held and no machine costs anything to leave.
+**
+**   rows, rows_len    the words of the table, read only: those of its rows, one row behind the other, at most HIMM_TABLE_WORDS
+**   book, book_len    HIMM_BOOK_WORDS words, written whole; what they held does not matter. It must not overlap the other two lists
+**   sheet, sheet_len  HIMM_SHEET_WORDS words, written whole, likewise; every machine in use is stale
+**
+** Refuses: HIMM_WRONG_LENGTH (any of the three lists; of the table a length that is no multiple of HIMM_ROW_WORDS or over
+** HIMM_TABLE_WORDS), HIMM_TORN_BOOK (no well-formed book has all that the rows say: no rows, a machine that is not under HIMM_MACHINES, a
+** start that is neither 1 nor 0, a row without a machine that has anything else in it, a machine without a start or with two, a machine
+** that is below two nodes, one that is below a node and has no rows, no root or two, machines that hold each other in a ring, more than
+** HIMM_LEVELS levels).
+*/
+uint32_t himm_open_table(const uint32_t *rows, size_t rows_len, uint32_t *book, size_t book_len, uint32_t *sheet, size_t sheet_len);
+
+/*
+** himm_ladder: the rows of the ladder of a depth, for himm_open_table to take as they are or changed. It has 2 to the depth, less 1,
+** machines in place of the 63 of himm_open_ladder, by the same rule, and only their rows: 9, 27, 63, 135, 279 or 567 words. The rows of
+** every depth open; those of depth 6 give the words that himm_open_ladder writes.
+**
+**   depth           from 1 to HIMM_LARGEST_DEPTH
+**   rows, rows_len  takes the rows at its front; later words are untouched. HIMM_TABLE_WORDS words are always enough
+**   length          how many words the rows have
+**
+** Refuses: HIMM_WRONG_DEPTH, HIMM_BUFFER_TOO_SHORT (rows_len is less than the words of the rows).
+*/
+uint32_t himm_ladder(uint32_t depth, uint32_t *rows, size_t rows_len, uint32_t *length);
 
 /*
 ** himm_load: do the commands of a stream in order, up to its end or to the first command that is refused.

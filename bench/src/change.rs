@@ -11,8 +11,10 @@ use himm_model::{ABSENT, WALKERS};
 type Row = (&'static str, &'static str, fn(&Side, usize, &mut Times) -> Vec<u32>);
 
 /// The rows that need no book.
-const BARE: [Row; 3] = [
+const BARE: [Row; 5] = [
     ("open the ladder", "himm_open_ladder", |side, _, t| front(side.open(t))),
+    ("open the ladder from a table", "himm_open_table", |side, _, t| front(side.open_table(t))),
+    ("rows of the ladder", "himm_ladder", |side, _, t| side.ladder(t)),
     ("import 1,000 timings", "himm_import", |side, i, t| words(side.import(&logged(i), t))),
     ("import 1,000 hard timings", "himm_import", |side, i, t| words(side.import(&hard(i), t))),
 ];

@@ -20,6 +20,8 @@ const MOST_WORDS: usize = 8192;
 // by the calling convention of x86-64 it leaves them alone. So it is with himm_step before version 2, which has no word for the node: a
 // pointer to that word is the seventh argument, which the caller puts on the stack and takes off again; the older call never looks there.
 type Open = unsafe extern "C" fn(*mut u32, usize, *mut u32, usize) -> u32;
+type OpenTable = unsafe extern "C" fn(*const u32, usize, *mut u32, usize, *mut u32, usize) -> u32;
+type Ladder = unsafe extern "C" fn(u32, *mut u32, usize, *mut u32) -> u32;
 type Load = unsafe extern "C" fn(*mut u32, usize, *mut u32, usize, *const u8, usize, *mut u64, *mut u64) -> u32;
 type Exit = unsafe extern "C" fn(*const u32, usize, *const u32, usize, u32, u32, *mut u32) -> u32;
 type Step = unsafe extern "C" fn(*const u32, usize, u32, u32, *mut u32, *mut u32, *mut u32) -> u32;
@@ -36,6 +38,8 @@ pub struct Library {
     opened: Opened,
     open_fresh: Option<Open>,
     open_ladder: Option<Open>,
+    open_table: Option<OpenTable>,
+    ladder: Option<Ladder>,
     load: Option<Load>,
     exit: Option<Exit>,
     step: Option<Step>,
@@ -103,6 +107,8 @@ impl Library {
         Box::leak(Box::new(Library {
             open_fresh,
             open_ladder: opened.call("himm_open_ladder"),
+            open_table: opened.call("himm_open_table"),
+            ladder: opened.call("himm_ladder"),
             load: opened.call("himm_load"),
             exit: opened.call("himm_exit"),
             step: opened.call("himm_step"),
@@ -134,6 +140,19 @@ impl Library {
     /// The ladder's book and its sheet.
     pub fn open_ladder(&self, book: &mut [u32], sheet: &mut [u32]) -> Result<(), u32> {
         answer(unsafe { self.open_ladder.expect("himm_open_ladder")(book.as_mut_ptr(), book.len(), sheet.as_mut_ptr(), sheet.len()) }, ())
+    }
+
+    /// A table's book and its sheet.
+    pub fn open_table(&self, rows: &[u32], book: &mut [u32], sheet: &mut [u32]) -> Result<(), u32> {
+        let (call, b, s) = (self.open_table.expect("himm_open_table"), (book.as_mut_ptr(), book.len()), (sheet.as_mut_ptr(), sheet.len()));
+        answer(unsafe { call(rows.as_ptr(), rows.len(), b.0, b.1, s.0, s.1) }, ())
+    }
+
+    /// The number of words of the ladder's rows for a depth, which go to the output.
+    pub fn ladder(&self, depth: u32, out: &mut [u32]) -> Result<usize, u32> {
+        let (call, mut length) = (self.ladder.expect("himm_ladder"), 0);
+        let number = unsafe { call(depth, out.as_mut_ptr(), out.len(), &mut length) };
+        answer(number, length as usize)
     }
 
     /// A stream's commands done.

@@ -52,6 +52,7 @@ fn tables(library: &'static Library, agreement: &mut Agreement) {
         compare_all(side.at(0), agreement);
     }
     rows::merges("half-full random books", &half_full(library), agreement);
+    rows::tables(&kinds[0].1, agreement);
     rows::imports(&kinds[0].1, agreement);
     parts(&kinds);
     grown(library, &kinds, agreement);

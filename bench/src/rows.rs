@@ -7,7 +7,7 @@ use crate::timing::{medians, print_row, rounds, timed, Times};
 use himm_model::flat::Flat;
 use himm_model::import::Import;
 use himm_model::stream::Station;
-use himm_model::{book, calls, choose, merge, write};
+use himm_model::{book, calls, choose, merge, table, write, LARGEST_DEPTH};
 
 /// How many answers were compared, and how many of them differed.
 #[derive(Default)]
@@ -182,6 +182,20 @@ pub fn merges(name: &str, side: &Side, agreement: &mut Agreement) {
         agreement.of(loaded, [first, second].map(|holding| holding.book.clone()));
     };
     rounds(ROUNDS, |i, t| side.merge(i, t), both, agree).print("merge two half-full random books", "write and load both (ours)");
+}
+
+/// The ladder opened from a table against the constant one and against the model, and its rows against the model's.
+pub fn tables(side: &Side, agreement: &mut Agreement) {
+    println!();
+    println!("the ladder's table of 189 rows, the same each time");
+    let open = |_: usize, times: &mut _| side.open_table(times);
+    rounds(ROUNDS, open, |_, t| side.open(t), |a, b| agreement.of(a, b)).print("open the ladder from a table", "open the ladder (ours)");
+    let (rows, holding) = (table::ladder(LARGEST_DEPTH), side.at(0));
+    let lengths = (holding.book.len(), holding.sheet.len());
+    let model = |_: usize, times: &mut _| timed(times, || calls::open_table(&rows, lengths.0, lengths.1)).map_or(vec![], |(book, _)| book);
+    rounds(ROUNDS / 4, open, model, |a, b| agreement.of(a, b)).print("open the ladder from a table", "the plain model's opening");
+    let model = |_: usize, times: &mut _| timed(times, || table::ladder(LARGEST_DEPTH));
+    rounds(ROUNDS, |_, t| side.ladder(t), model, |a, b| agreement.of(a, b)).print("rows of the ladder", "the plain model's rows");
 }
 
 /// Imports against Rust's floats and against the model, which works them out digit by digit.

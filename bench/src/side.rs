@@ -7,7 +7,7 @@ use crate::timing::{timed, Times};
 use himm_model::flat::Flat;
 use himm_model::import::Import;
 use himm_model::random::{self, Growth, Random, Shape};
-use himm_model::{book, walk, COMMANDS, LIST_COMMANDS, MACHINES, NODES, STREAM_BYTES, WALKERS};
+use himm_model::{book, table, walk, COMMANDS, LARGEST_DEPTH, LIST_COMMANDS, MACHINES, NODES, STREAM_BYTES, TABLE_WORDS, WALKERS};
 
 /// How often each piece of work is timed.
 pub const ROUNDS: usize = 400;
@@ -129,6 +129,21 @@ impl Side {
         let (mut book, mut sheet) = (self.fresh.book.clone(), self.fresh.sheet.clone());
         timed(times, || self.library().open_ladder(&mut book, &mut sheet)).expect("right lengths");
         book
+    }
+
+    /// The same from a table, the ladder's rows.
+    pub fn open_table(&self, times: &mut Times) -> Vec<u32> {
+        let (rows, mut book, mut sheet) = (table::ladder(LARGEST_DEPTH), self.fresh.book.clone(), self.fresh.sheet.clone());
+        timed(times, || self.library().open_table(&rows, &mut book, &mut sheet)).expect("a good table");
+        book
+    }
+
+    /// These rows by the generator; the output is filled outside the clock.
+    pub fn ladder(&self, times: &mut Times) -> Vec<u32> {
+        let mut out = vec![u32::MAX; TABLE_WORDS];
+        let length = timed(times, || self.library().ladder(LARGEST_DEPTH, &mut out)).expect("room enough");
+        out.truncate(length);
+        out
     }
 
     /// A plan's cost.

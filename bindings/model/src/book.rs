@@ -51,12 +51,12 @@ pub fn decode(words: &[u32]) -> Option<Tree> {
 }
 
 /// A word that must be a number under a limit.
-fn below(word: u32, limit: usize) -> Option<usize> {
+pub fn below(word: u32, limit: usize) -> Option<usize> {
     ((word as usize) < limit).then_some(word as usize)
 }
 
 /// A word that may also say that the number is not there.
-fn number_or_absent(word: u32, limit: usize) -> Option<Option<usize>> {
+pub fn number_or_absent(word: u32, limit: usize) -> Option<Option<usize>> {
     if word == ABSENT {
         Some(None)
     } else {
@@ -100,7 +100,8 @@ fn read_hold(word: u32) -> Option<bool> {
     below(word, 2).map(|hold| hold == 1)
 }
 
-fn well_formed(tree: &Tree) -> bool {
+/// Whether a tree is one that a well-formed book holds; its numbers are under their limits.
+pub fn well_formed(tree: &Tree) -> bool {
     (0..MACHINES).all(|m| machine_fits(tree, m))
         && (0..NODES).all(|n| node_fits(tree, n))
         && tree.machines[tree.root].is_some()

@@ -5,7 +5,8 @@ use crate::import::{self, Import, Reading};
 use crate::sheet::{self, is_stale, Exits};
 use crate::stream::{Command, Row, Station};
 use crate::tree::{Moved, Tree};
-use crate::{book, choose, merge, walk, write, BOOK_WORDS, COMMANDS, MACHINES, NODES, SHEET_WORDS, WALKERS};
+use crate::{book, choose, merge, table, walk, write};
+use crate::{BOOK_WORDS, COMMANDS, LARGEST_DEPTH, MACHINES, NODES, ROW_WORDS, SHEET_WORDS, TABLE_WORDS, WALKERS};
 
 /// Refuses where the test does not hold.
 fn ask(number: u32, holds: bool) -> Result<(), u32> {
@@ -28,6 +29,26 @@ pub fn read_holding(book: &[u32], sheet: &[u32]) -> Result<Tree, u32> {
     let tree = book::decode(book).ok_or(2u32)?;
     ask(3, sheet::is_true(&tree, sheet))?;
     Ok(tree)
+}
+
+/// The words of a tree's book, and of its sheet with every machine stale.
+fn opened(tree: &Tree) -> (Vec<u32>, Vec<u32>) {
+    (book::encode(tree), sheet::stale(tree))
+}
+
+/// Open from a table into lists of these lengths: refuses 1, 2; gives the words of the book and of its sheet.
+pub fn open_table(rows: &[u32], book_len: usize, sheet_len: usize) -> Result<(Vec<u32>, Vec<u32>), u32> {
+    let whole_rows = rows.len() % ROW_WORDS == 0 && rows.len() <= TABLE_WORDS;
+    ask(1, whole_rows && book_len == BOOK_WORDS && sheet_len == SHEET_WORDS)?;
+    table::tree(rows).map(|tree| opened(&tree)).ok_or(2)
+}
+
+/// The ladder's rows for a depth, into an output of so many words: refuses 24, 15.
+pub fn ladder(depth: u32, room: usize) -> Result<Vec<u32>, u32> {
+    ask(24, (1..=LARGEST_DEPTH).contains(&depth))?;
+    let rows = table::ladder(depth);
+    ask(15, room >= rows.len())?;
+    Ok(rows)
 }
 
 /// A true holding as a station whose rows are kept or stale.
@@ -88,8 +109,7 @@ pub fn merge(first: &[u32], second: &[u32], book_len: usize, sheet_len: usize) -
     let one = book::decode(first).ok_or(2u32)?;
     let other = book::decode(second).ok_or(2u32)?;
     ask(12, !one.is_deep() && !other.is_deep())?;
-    let merged = merge::merge(&one, &other).ok_or(19u32)?;
-    Ok((book::encode(&merged), sheet::stale(&merged)))
+    merge::merge(&one, &other).map(|merged| opened(&merged)).ok_or(19)
 }
 
 /// Import into an output of so many bytes: refuses 6, 20, 15.

@@ -11,6 +11,7 @@ pub mod merge;
 pub mod random;
 pub mod sheet;
 pub mod stream;
+pub mod table;
 pub mod tree;
 pub mod walk;
 pub mod write;
@@ -22,6 +23,9 @@ pub const LEVELS: usize = 8;
 pub const WALKERS: usize = 8;
 pub const BOOK_WORDS: usize = 5057;
 pub const SHEET_WORDS: usize = 2880;
+pub const ROW_WORDS: usize = 3;
+pub const TABLE_WORDS: usize = 567;
+pub const LARGEST_DEPTH: u32 = 6;
 pub const STREAM_BYTES: usize = 34938;
 pub const LIST_COMMANDS: usize = 65536;
 

@@ -2,7 +2,7 @@
 
 use crate::stream::{Command, Station};
 use crate::tree::Tree;
-use crate::{COMMANDS, LEVELS, MACHINES, NODES};
+use crate::{table, COMMANDS, LEVELS, MACHINES, NODES};
 
 /// A small generator of numbers (splitmix64).
 pub struct Random(u64);
@@ -233,6 +233,18 @@ fn cost(random: &mut Random, costs: Costs) -> usize {
 /// The bytes of commands.
 pub fn bytes(commands: &[Command]) -> Vec<u8> {
     commands.iter().flat_map(Command::bytes).collect()
+}
+
+/// A table of so many rows with a random tree of a shape. Its nodes, which are no more than the rows, are put at rows at random, and the
+/// other rows are unused.
+pub fn table(random: &mut Random, shape: &Shape, rows: usize) -> Vec<u32> {
+    let mut station = Station::stale(Tree::single(0, 0));
+    book(random, shape).iter().for_each(|command| station.apply(command));
+    let nodes: Vec<usize> = (0..NODES).filter(|&n| station.tree.nodes[n].is_some()).collect();
+    assert!(nodes.len() <= rows, "more nodes than rows");
+    let places = random.shuffled(rows);
+    let row = |place: usize| nodes.get(places[place]).map_or(table::UNUSED, |&node| table::row(&station.tree, node));
+    (0..rows).flat_map(row).collect()
 }
 
 /// A random command for a tree: mostly one that is done, sometimes one that is refused.

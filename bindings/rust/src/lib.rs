@@ -35,6 +35,16 @@ pub const WALKERS: usize = 8;
 pub const BOOK_WORDS: usize = 5057;
 pub const SHEET_WORDS: usize = 2880;
 
+/// The words of a row of a table, and the most words of a table.
+pub const ROW_WORDS: usize = 3;
+pub const TABLE_WORDS: usize = 567;
+
+/// The largest depth of a ladder.
+pub const LARGEST_DEPTH: u32 = 6;
+
+/// A word for a number that is not there, as in a row without a machine or without one below.
+pub const ABSENT: u32 = 65535;
+
 /// A plan buffer and an output for a stream that are long enough for every book.
 pub const PLAN_BYTES: usize = 255;
 pub const STREAM_BYTES: usize = 34938;
@@ -121,6 +131,35 @@ pub fn open_fresh(book: &mut [u32], sheet: &mut [u32]) -> Result<(), Refusal> {
 /// Makes the book of the ladder, 63 machines of three nodes each.
 pub fn open_ladder(book: &mut [u32], sheet: &mut [u32]) -> Result<(), Refusal> {
     Refusal::check(unsafe { raw::himm_open_ladder(book.as_mut_ptr(), book.len(), sheet.as_mut_ptr(), sheet.len()) })
+}
+
+/// Makes the book of a table of rows, three words each: the machine that a node belongs to, the machine below it or [`ABSENT`], and 1 for
+/// its machine's start, else 0. Row n is for node n; an unused row has [`ABSENT`], [`ABSENT`] and 0. The machine that no row has below is
+/// the root. Commands 0 and 1 go to the next lower and the next higher node of the machine, at cost 1.
+///
+/// ```
+/// use himm::ABSENT;
+/// let (mut book, mut sheet) = (vec![0; himm::BOOK_WORDS], vec![0; himm::SHEET_WORDS]);
+/// // Machine 7 has the nodes 0 and 3. Node 3 holds machine 2, which has the nodes 1 and 4. There is no node 2.
+/// let rows = [[7, ABSENT, 1], [2, ABSENT, 0], [ABSENT, ABSENT, 0], [7, 2, 0], [2, ABSENT, 1]].concat();
+/// himm::open_table(&rows, &mut book, &mut sheet)?;
+/// himm::load(&mut book, &mut sheet, &[himm::REFRESH]).result?;
+/// let mut buffer = [0; himm::PLAN_BYTES];
+/// assert_eq!(himm::plan(&book, &sheet, 0, 1, &mut buffer)?.commands, [1, 0]);
+/// assert_eq!(himm::open_table(&rows[3..], &mut book, &mut sheet), Err(himm::Refusal::TornBook));
+/// # Ok::<(), himm::Refusal>(())
+/// ```
+pub fn open_table(rows: &[u32], book: &mut [u32], sheet: &mut [u32]) -> Result<(), Refusal> {
+    let (b, s) = ((book.as_mut_ptr(), book.len()), (sheet.as_mut_ptr(), sheet.len()));
+    Refusal::check(unsafe { raw::himm_open_table(rows.as_ptr(), rows.len(), b.0, b.1, s.0, s.1) })
+}
+
+/// The rows of the ladder of a depth from 1 to [`LARGEST_DEPTH`], at the front of the lent output, for [`open_table`]: 2 to the depth, less
+/// 1, machines of three nodes each. Those of depth 6 give the words that [`open_ladder`] writes.
+pub fn ladder(depth: u32, out: &mut [u32]) -> Result<&[u32], Refusal> {
+    let mut length = 0;
+    let number = unsafe { raw::himm_ladder(depth, out.as_mut_ptr(), out.len(), &mut length) };
+    Refusal::check(number).map(|()| &out[..length as usize])
 }
 
 /// Does the commands of a stream up to its end or the first that is refused.

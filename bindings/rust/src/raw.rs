@@ -7,6 +7,8 @@ pub const HIMM_SECONDS_WAITED: u32 = 1;
 extern "C" {
     pub fn himm_open_fresh(book: *mut u32, book_len: usize, sheet: *mut u32, sheet_len: usize) -> u32;
     pub fn himm_open_ladder(book: *mut u32, book_len: usize, sheet: *mut u32, sheet_len: usize) -> u32;
+    pub fn himm_open_table(rows: *const u32, rows_len: usize, book: *mut u32, book_len: usize, sheet: *mut u32, sheet_len: usize) -> u32;
+    pub fn himm_ladder(depth: u32, rows: *mut u32, rows_len: usize, length: *mut u32) -> u32;
     pub fn himm_load(
         book: *mut u32,
         book_len: usize,

@@ -29,11 +29,12 @@ pub enum Refusal {
     HeldStart = 21,
     NodeFull = 22,
     TooManyWalkers = 23,
+    WrongDepth = 24,
 }
 
 impl Refusal {
     /// Every refusal, the one with number k at place k - 1.
-    pub const ALL: [Refusal; 23] = [
+    pub const ALL: [Refusal; 24] = [
         Refusal::WrongLength,
         Refusal::TornBook,
         Refusal::FalseSheet,
@@ -57,9 +58,10 @@ impl Refusal {
         Refusal::HeldStart,
         Refusal::NodeFull,
         Refusal::TooManyWalkers,
+        Refusal::WrongDepth,
     ];
 
-    /// The refusal of a number 1 to 23.
+    /// The refusal of a number 1 to 24.
     pub fn of(number: u32) -> Option<Refusal> {
         Refusal::ALL.get((number as usize).wrapping_sub(1)).copied()
     }
@@ -69,18 +71,18 @@ impl Refusal {
         self as u32
     }
 
-    /// What a call returned: 0 is no refusal. The library returns no number over 23.
+    /// What a call returned: 0 is no refusal. The library returns no number over 24.
     pub(crate) fn check(number: u32) -> Result<(), Refusal> {
         if number == 0 {
             return Ok(());
         }
-        Err(Refusal::of(number).expect("a refusal's number is 1 to 23"))
+        Err(Refusal::of(number).expect("a refusal's number is 1 to 24"))
     }
 
     fn meaning(self) -> &'static str {
         match self {
-            Refusal::WrongLength => "a book or a sheet of a wrong length",
-            Refusal::TornBook => "the book is not well formed",
+            Refusal::WrongLength => "a book, a sheet or a table of a wrong length",
+            Refusal::TornBook => "the book is not well formed, or no well-formed book comes of the table",
             Refusal::FalseSheet => "the sheet is not true of the book",
             Refusal::CutShort => "the stream ends inside a command",
             Refusal::UnknownOpcode => "a byte that is no opcode",
@@ -102,6 +104,7 @@ impl Refusal {
             Refusal::HeldStart => "a start node cannot be held, nor a held node become one",
             Refusal::NodeFull => "as many walkers as may be are inside the node",
             Refusal::TooManyWalkers => "a limit or a number of walkers over 8, or more walkers inside than the limit",
+            Refusal::WrongDepth => "a depth that is not from 1 to 6",
         }
     }
 }

@@ -10,7 +10,11 @@ use himm_model::random::{Costs, Random, Shape};
 use himm_model::sheet::{machine_row, node_row};
 use himm_model::{BOOK_WORDS, COMMANDS, MACHINES, NODES, SHEET_WORDS};
 
-/// One of each call, with arguments that would otherwise be good.
+/// A table of one machine, and one whose machine has no start.
+const GOOD: [u32; 3] = [0, 65535, 1];
+const TORN: [u32; 3] = [0, 65535, 0];
+
+/// One of each call, with arguments that would otherwise be good. An opening does not look at what it writes over.
 fn compare(holding: &Holding, view: &View, random: &mut Random) {
     let machine = random.below(MACHINES) as u32;
     let (from, to) = (random.below(NODES) as u32, random.below(NODES) as u32);
@@ -20,6 +24,7 @@ fn compare(holding: &Holding, view: &View, random: &mut Random) {
     holding.compare_plan(view, from, to, himm::PLAN_BYTES);
     holding.compare_choice(view, from, to, &[0, 1, 2], &[1]);
     holding.clone().load(&[himm::REFRESH]);
+    holding.clone().open_table(if command % 2 == 0 { &GOOD } else { &TORN });
     Walkers::at(to, 1, &[from]).both(&holding.book, &view.book, 0, command);
 }
 
@@ -49,6 +54,7 @@ fn wrong_opening(mut holding: Holding) {
         let before = holding.clone();
         assert_eq!(himm::open_fresh(&mut holding.book, &mut holding.sheet), Err(himm::Refusal::WrongLength));
         assert_eq!(himm::open_ladder(&mut holding.book, &mut holding.sheet), Err(himm::Refusal::WrongLength));
+        assert_eq!([&GOOD[..], &TORN, &GOOD[1..]].map(|rows| holding.open_table(rows)), [1; 3]);
         assert!(holding == before, "a refused opening wrote");
     }
 }

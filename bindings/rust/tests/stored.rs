@@ -6,7 +6,7 @@
 mod common;
 
 use common::{mast, Holding};
-use himm_model::random::{edit, Costs, Growth, Random, Shape};
+use himm_model::random::{edit, table, Costs, Growth, Random, Shape};
 use himm_model::stream::Command;
 use himm_model::tree::{Node, Tree};
 use himm_model::{COMMANDS, MACHINES, NODES};
@@ -16,7 +16,7 @@ use std::path::PathBuf;
 /// holds and costs of leaving.
 type Book = (&'static str, fn() -> Holding);
 
-const BOOKS: [Book; 19] = [
+const BOOKS: [Book; 20] = [
     ("fresh", Holding::fresh),
     ("ladder", Holding::ladder),
     ("mast", || mast("")),
@@ -36,6 +36,7 @@ const BOOKS: [Book; 19] = [
     ("holds", || of_shape(11, Shape { machines: 12, nodes: 40, filled: 40, holds: 30, ..Shape::full() })),
     ("mast-with-leave", || mast("1A 000B 01 1B 01 FF07")),
     ("leaves", || of_shape(12, Shape { machines: 12, nodes: 40, filled: 40, holds: 10, leaves: 70, ..Shape::full() })),
+    ("table-with-gaps", || Holding::of_table(&table(&mut Random::new(13), &Shape { machines: 12, nodes: 40, ..Shape::full() }, 60))),
 ];
 
 /// A random book, with gaps in its numbers where the shape leaves some.

@@ -4,7 +4,7 @@ use mathlib.Core.Logic.{_⊎_, inl, inr, ⊎-elim}
 use mathlib.Core.Bool.{Bool, true, not, _&&_}
 use mathlib.Core.Option.{Option, none, some}
 use mathlib.Core.List.{List, [], _∷_, _++_}
-use Prim.Native.Nat.{ℕ, suc, _-_, _≤_, _<_}
+use Prim.Native.Nat.{ℕ, suc, _-_, _≤_, _<_, _^_}
 use native.Mathlib.Omega.{arith}
 use lib.Dec.{eqb}
 use lib.ListN.{length, getD, take, drop}
@@ -22,13 +22,15 @@ use Rattle.definitions.specs.Truth.{TrueSheet}
 use Rattle.definitions.specs.Load.{load}
 use Rattle.definitions.specs.Answer.{Answer, gives, refuses, Refusal, refuse, asks, wants, wantsLeast, asksRoom, InOrder}
 use Rattle.definitions.specs.Calls.{RightLengths, bookRefusals, sheetRefusals, stateRefusals, exitRefusals, stepRefusals, planRefusals}
-use Rattle.definitions.specs.Calls.{OpenSays, LoadAnswer, LoadDone, LoadSays, ExitSays, GivesStep, StepSays, GivesPlan, PlanSays}
+use Rattle.definitions.specs.Calls.{OpenSays, openRefusals, LoadAnswer, LoadDone, LoadSays, ExitSays, GivesStep, StepSays, GivesPlan, PlanSays}
 use Rattle.definitions.specs.Choose.{Choice, first, cheaperOf, partOf, placeOf, ChoiceSays, ChooseSays}
-use Rattle.definitions.specs.Write.{written, GivesBytes, WriteSays}
-use Rattle.definitions.specs.Open.{openRows}
+use Rattle.definitions.specs.Write.{written, GivesList, WriteSays}
+use Rattle.definitions.specs.Open.{openRows, Opening, fresh, ladder, table, ComesOf}
+use Rattle.definitions.specs.Ladder.{ladderRows, LadderSays}
 use Rattle.definitions.specs.Merge.{mergeRefusals, MergeSays}
 use Rattle.definitions.specs.Import.{Reading, took, waited, Timed, settingBytes, importRefusals, ImportSays}
 use Rattle.definitions.proofs.Options.{none-some, some-same, true-false, and-true}
+use Rattle.definitions.proofs.Tables.{comes-one}
 
 -- an answer that gives a value refuses nothing
 pub given-refused : {v k : ℕ} {vs : List ℕ} {answer : Answer} → answer ≡ gives (v ∷ vs) → answer ≡ refuses k → ⊥
@@ -40,11 +42,11 @@ given-refused {vs = vs} p q =
 gives-same : {a b : ℕ} → gives (a ∷ []) ≡ gives (b ∷ []) → a ≡ b
 gives-same e = ap (λ (a : Answer). getD (a .values) 0 0) e
 
--- bytes that are given stand at the front of the output, so many as are told
-pub bytes-given : (bytes out out′ : List ℕ) (size : ℕ) → GivesBytes bytes out (gives (size ∷ [])) out′
+-- a list that is given stands at the front of the output, so many as are told
+pub list-given : (bytes out out′ : List ℕ) (size : ℕ) → GivesList bytes out (gives (size ∷ [])) out′
     → (size ≡ length bytes) × (take size out′ ≡ bytes)
-bytes-given bytes out out′ size (inl (short, e)) = absurd (given-refused refl (e .0))
-bytes-given bytes out out′ size (inr (room, (told, stand))) =
+list-given bytes out out′ size (inl (short, e)) = absurd (given-refused refl (e .0))
+list-given bytes out out′ size (inr (room, (told, stand))) =
     let same : size ≡ length bytes = gives-same told in
     (same, rw stand (take-at bytes (drop (length bytes) out) size (sym same)))
 
@@ -278,6 +280,16 @@ plan-exclusive t r a b room = (
   states-exclusive t a b (asksRoom 15 (states t - 1) room ∷ wantsLeast 16 (LeastCost t a b) ∷ []) (apart-room, (apart-least _, tt)),
 )
 
+pub open-exclusive : (o : Opening) (book sheet : List ℕ) → Exclusive (openRefusals o book sheet)
+open-exclusive fresh book sheet = (λ bad good. bad good, tt)
+open-exclusive ladder book sheet = (λ bad good. bad good, tt)
+open-exclusive (table rows) book sheet = (λ bad good. bad good, (λ bad good. bad good, tt))
+
+pub open-numbered : (o : Opening) (book sheet : List ℕ) → numbered (openRefusals o book sheet) ≡ true
+open-numbered fresh book sheet = refl
+open-numbered ladder book sheet = refl
+open-numbered (table rows) book sheet = refl
+
 -- ---- the answer is one
 
 -- a least cost is one
@@ -285,13 +297,27 @@ least-same : {P : ℕ → Type 0} {c d : ℕ} → Least P (some c) → Least P (
 least-same {P} {c} {d} one two = omega (arith, one .1 d (two .0), two .1 c (one .0))
 
 -- Open's number and both lists
-pub open-one : (t : Tree) (book sheet : List ℕ) {k j : ℕ} {book′ book″ sheet′ sheet″ : List ℕ} → OpenSays t book sheet k book′ sheet′
-    → OpenSays t book sheet j book″ sheet″ → (k ≡ j) × (book′ ≡ book″) × (sheet′ ≡ sheet″)
-open-one t book sheet {k} {j} {book′} {book″} {sheet′} {sheet″} one two =
+pub open-one : (o : Opening) (book sheet : List ℕ) {k j : ℕ} {book′ book″ sheet′ sheet″ : List ℕ} → OpenSays o book sheet k book′ sheet′
+    → OpenSays o book sheet j book″ sheet″ → (k ≡ j) × (book′ ≡ book″) × (sheet′ ≡ sheet″)
+open-one o book sheet {k} {j} {book′} {book″} {sheet′} {sheet″} one two =
     both-ways
-    (one-outcome (asks 1 (RightLengths book sheet) ∷ []) (λ bad good. bad good, tt)
+    (one-outcome (openRefusals o book sheet) (open-exclusive o book sheet)
     {R = λ i. (k ≡ i) × (book′ ≡ book) × (sheet′ ≡ sheet)} {S = λ i. (j ≡ i) × (book″ ≡ book) × (sheet″ ≡ sheet)} one two)
-    (λ i (a, b, c) (d, e, f). (a ∙ sym d, b ∙ sym e, c ∙ sym f)) (λ (a, b, c) (d, e, f). (a ∙ sym d, b ∙ sym e, c ∙ sym f))
+    (λ i (a, b, c) (d, e, f). (a ∙ sym d, b ∙ sym e, c ∙ sym f))
+    (λ (t, comes, a, b, c) (u, too, d, e, f).
+    let same = comes-one o t u comes too in
+    (a ∙ sym d, b ∙ ap encode same ∙ sym e, c ∙ ap (λ (v : Tree). encodeRows (openRows v)) same ∙ sym f))
+
+-- where it gives 0 both lists are those of the tree that comes of the opening
+pub open-done : (o : Opening) (t : Tree) (lent lent-sheet : List ℕ) {book sheet : List ℕ} → ComesOf o t → OpenSays o lent lent-sheet 0 book sheet
+    → (book ≡ encode t) × (sheet ≡ encodeRows (openRows t))
+open-done o t lent lent-sheet {book} {sheet} comes says =
+    let (passed, (u, too, zero, written, filled)) =
+    in-order-done (openRefusals o lent lent-sheet) (open-numbered o lent lent-sheet)
+    {R = λ k. (0 ≡ k) × (book ≡ lent) × (sheet ≡ lent-sheet)} (λ k other said. other (sym (said .0))) says
+    in
+    let same = comes-one o u t too comes in
+    (written ∙ ap encode same, filled ∙ ap (λ (v : Tree). encodeRows (openRows v)) same)
 
 -- Merge's number and the third's two lists
 pub merge-one : (one-book other-book book sheet : List ℕ) {k j : ℕ} {book′ book″ sheet′ sheet″ : List ℕ} → MergeSays one-book other-book book sheet k book′ sheet′
@@ -358,9 +384,9 @@ plan-one book sheet a b buffer {answer} {other} {buffer′} {buffer″} one two 
     (q ∙ ap (λ (k : ℕ). gives (k ∷ length ys ∷ [])) (least-same (too .least) (plan .least))))
 
 -- an answer that gives bytes, and the output
-bytes-one : (xs ys out : List ℕ) {answer other : Answer} {out′ out″ : List ℕ} → xs ≡ ys → GivesBytes xs out answer out′ → GivesBytes ys out other out″
+list-one : (xs ys out : List ℕ) {answer other : Answer} {out′ out″ : List ℕ} → xs ≡ ys → GivesList xs out answer out′ → GivesList ys out other out″
     → (answer ≡ other) × (out′ ≡ out″)
-bytes-one xs ys out {answer} {other} {out′} {out″} same one two =
+list-one xs ys out {answer} {other} {out′} {out″} same one two =
     both-ways
     (one-outcome (asksRoom 15 (length ys) (length out) ∷ []) (apart-room, tt) {R = Keeps answer out out′} {S = Keeps other out out″} (rw same at one) two)
     (λ i (a, b) (c, d). (a ∙ sym c, b ∙ sym d)) (λ (a, b) (c, d). (a ∙ sym c, b ∙ sym d))
@@ -371,7 +397,16 @@ pub write-one : (book out : List ℕ) {answer other : Answer} {out′ out″ : L
 write-one book out {answer} {other} {out′} {out″} one two =
     both-ways
     (one-outcome (bookRefusals book []) (book-exclusive book [] tt) {R = Keeps answer out out′} {S = Keeps other out out″} one two)
-    (λ i (a, b) (c, d). (a ∙ sym c, b ∙ sym d)) (bytes-one (written (treeOf book)) (written (treeOf book)) out refl)
+    (λ i (a, b) (c, d). (a ∙ sym c, b ∙ sym d)) (list-one (written (treeOf book)) (written (treeOf book)) out refl)
+
+-- the generator's answer and output (document 02, W-208)
+pub ladder-one : (depth : ℕ) (out : List ℕ) {answer other : Answer} {out′ out″ : List ℕ} → LadderSays depth out answer out′ → LadderSays depth out other out″
+    → (answer ≡ other) × (out′ ≡ out″)
+ladder-one depth out {answer} {other} {out′} {out″} one two =
+    let rows = ladderRows (2 ^ depth - 1) in
+    both-ways
+    (one-outcome (asks 24 ((1 ≤ depth) × (depth ≤ 6)) ∷ []) (λ bad good. bad good, tt) {R = Keeps answer out out′} {S = Keeps other out out″} one two)
+    (λ i (a, b) (c, d). (a ∙ sym c, b ∙ sym d)) (list-one rows rows out refl)
 
 -- a timing gives one transition
 pub timed-same : (reading : Reading) (dead : Float) (v : ℕ) {o p : Option Transition} → Timed reading dead v o → Timed reading dead v p → o ≡ p
@@ -387,7 +422,7 @@ import-one n x v reading dead out {answer} {other} {out′} {out″} one two =
     (one-outcome (importRefusals n x v reading dead)
     (λ bad good. bad good, (λ bad good. bad good, tt)) {R = Keeps answer out out′} {S = Keeps other out out″} one two)
     (λ i (a, b) (c, d). (a ∙ sym c, b ∙ sym d))
-    (λ (o, timed, given) (p, too, as-well). bytes-one (settingBytes n x o) (settingBytes n x p) out (ap (settingBytes n x) (timed-same reading dead v timed too)) given as-well)
+    (λ (o, timed, given) (p, too, as-well). list-one (settingBytes n x o) (settingBytes n x p) out (ap (settingBytes n x) (timed-same reading dead v timed too)) given as-well)
 
 -- Choose's choice and number, and so the part, its place and the word
 pub choice-one : (book : List ℕ) (a b : ℕ) (one two : List ℕ) {choice other : Choice} {k j : ℕ} → ChoiceSays book a b one two choice k

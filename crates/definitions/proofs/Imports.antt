@@ -26,7 +26,7 @@ use Rattle.definitions.proofs.Commands.{arrow-taken, clear-taken, both-
 use Rattle.definitions.proofs.Streams.{next-nothing, load-end}
 use Rattle.definitions.proofs.Spelling.{Spells, spells-arrow, spells-clear, whole, TakenAs, load-step}
 use Rattle.definitions.proofs.Kept.{CostInRange, edited-sound}
-use Rattle.definitions.proofs.Answers.{given-refused, bytes-given, load-done}
+use Rattle.definitions.proofs.Answers.{given-refused, list-given, load-done}
 
 -- ---- loading the edit that sets a transition
 
@@ -85,7 +85,7 @@ wrote : (n x v size : ℕ) (reading : Reading) (dead : Float) (out out′ : List
 wrote n x v size reading dead out out′ (inl (bad, e)) t placed = absurd (given-refused refl (e .0))
 wrote n x v size reading dead out out′ (inr (ranges, inl (unfit, e))) t placed = absurd (given-refused refl (e .0))
 wrote n x v size (waited seconds) dead out out′ (inr ((node, command, target), inr (fit, (o, gone, given)))) t placed =
-    let (counted, bytes) = bytes-given (settingBytes n x none) out out′ size (rw gone at given) in
+    let (counted, bytes) = list-given (settingBytes n x none) out out′ size (rw gone at given) in
     record {
       transition = none;
       timed = refl;
@@ -96,7 +96,7 @@ wrote n x v size (waited seconds) dead out out′ (inr ((node, command, target),
     }
 wrote n x v size (took seconds) dead out out′ (inr ((node, command, target), inr (fit, (o, (c, least, is), given)))) t ((m, own), beside) =
     let a : Transition = record { target = v; cost = c } in
-    let (counted, bytes) = bytes-given (settingBytes n x (some a)) out out′ size (rw is at given) in
+    let (counted, bytes) = list-given (settingBytes n x (some a)) out out′ size (rw is at given) in
     let small : c ≤ costs - 1 = least .1 (costs - 1) (fit .3) in
     record {
       transition = some a;

@@ -2,6 +2,7 @@ pub mod Options
 pub mod Lists
 pub mod Words
 pub mod Path
+pub mod Tables
 pub mod Runs
 pub mod Reaching
 pub mod Inside
@@ -25,4 +26,5 @@ pub mod Answers
 pub mod Acting
 pub mod Imports
 pub mod Merges
+pub mod Tabled
 pub mod Walks

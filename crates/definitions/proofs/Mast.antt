@@ -21,7 +21,7 @@ use Rattle.definitions.specs.Truth.{nodeExit, move}
 use Rattle.definitions.specs.Stream.{hold, operandLength, decode, readNext}
 use Rattle.definitions.specs.Edit.{firstHolding, refusals, refusal, single, withTransition, edited}
 use Rattle.definitions.specs.Load.{next, loadF, load, expected}
-use Rattle.definitions.specs.Open.{freshTree, fresh, openTree}
+use Rattle.definitions.specs.Open.{freshTree}
 use Rattle.definitions.specs.Answer.{Answer, gives, refuses, InOrder}
 use Rattle.definitions.specs.Calls.{Acts, Plan, GivesStep, StepSays, LoadAnswer, LoadSays}
 use Rattle.definitions.specs.Demand.{Bytes}
@@ -31,7 +31,7 @@ use Rattle.definitions.specs.Walk.{inside, comesInside, handedRefusals, 
 use Rattle.definitions.specs.Mast.{mastStream, clearing, mastAfter, mastTree, RefusedWith16, MastExamples}
 use Rattle.definitions.proofs.Options.{none-some, true-false}
 use Rattle.definitions.proofs.Kept.{hold-released, expected-sound}
-use Rattle.definitions.proofs.Opened.{open-sound}
+use Rattle.definitions.proofs.Opened.{fresh-sound}
 use Rattle.definitions.proofs.Tests.{allBelow, allUnder, listed, accounted, boundsTest, capped, freshRows, blankMachine, blankNode}
 use Rattle.definitions.proofs.Tests.{namedTest, chainTest, leftTest, endedTest, machineTest, reachedTest, nodeTest, rowsTest}
 use Rattle.definitions.proofs.Tests.{all-under, bound-least, bound-plan, bound-none, step-says}
@@ -178,14 +178,14 @@ computing = freshTree
 -- ---- the examples
 
 -- the stream is taken whole
-whole : (load (openTree fresh) mastStream .bytes ≡ 70) × (load (openTree fresh) mastStream .number ≡ 0)
+whole : (load freshTree mastStream .bytes ≡ 70) × (load freshTree mastStream .number ≡ 0)
 unfolding computing
 whole = (refl, refl)
 
 -- the stations are sound
 after-sound : (streams : List (List ℕ)) → All Bytes streams → Sound (mastAfter streams)
 unfolding computing
-after-sound streams bytes = expected-sound (open-sound fresh) (mastStream ∷ streams) (all-under 256 mastStream refl, bytes)
+after-sound streams bytes = expected-sound fresh-sound (mastStream ∷ streams) (all-under 256 mastStream refl, bytes)
 
 sound : Sound mastTree
 unfolding mastTree

@@ -16,7 +16,7 @@ use Rattle.definitions.specs.Book.{encode, treeOf, WellFormed}
 use Rattle.definitions.specs.Sheet.{Rows, rowsOf, encodeRows}
 use Rattle.definitions.specs.Truth.{TrueSheet}
 use Rattle.definitions.specs.Load.{Outcome, load, RowsAfterAll}
-use Rattle.definitions.specs.Open.{openRows}
+use Rattle.definitions.specs.Open.{openRows, TableLength, Opening, fresh, ladder, table, ComesOf}
 use Rattle.definitions.specs.Answer.{Answer, gives, refuses, Refusal, refuse, asks, wants, wantsLeast, asksRoom, InOrder}
 
 -- both lists have as many words as a book and a sheet have
@@ -31,12 +31,18 @@ abbrev pub sheetRefusals : List ℕ → List ℕ → List Refusal → List Refus
 sheetRefusals book sheet rest =
     asks 1 (RightLengths book sheet) ∷ asks 2 (WellFormed book) ∷ asks 3 (TrueSheet (treeOf book) sheet) ∷ rest
 
--- Open fresh and Open ladder, with the tree that is opened: the number, and both lists after the call
-abbrev pub OpenSays : Tree → List ℕ → List ℕ → ℕ → List ℕ → List ℕ → Type 0
-OpenSays t book sheet number book′ sheet′ =
-    InOrder (asks 1 (RightLengths book sheet) ∷ [])
+-- what an opening refuses: 1 (a wrong length, of a table too), then for a table 2 (no well-formed book comes of it)
+abbrev pub openRefusals : Opening → List ℕ → List ℕ → List Refusal
+openRefusals fresh book sheet = asks 1 (RightLengths book sheet) ∷ []
+openRefusals ladder book sheet = asks 1 (RightLengths book sheet) ∷ []
+openRefusals (table rows) book sheet = asks 1 (RightLengths book sheet × TableLength rows) ∷ asks 2 ((t : Tree) × ComesOf (table rows) t) ∷ []
+
+-- Open fresh, Open ladder, and Open from a table (document 02, W-208): the number, and both lists after the call
+abbrev pub OpenSays : Opening → List ℕ → List ℕ → ℕ → List ℕ → List ℕ → Type 0
+OpenSays o book sheet number book′ sheet′ =
+    InOrder (openRefusals o book sheet)
     (λ k. (number ≡ k) × (book′ ≡ book) × (sheet′ ≡ sheet))
-    ((number ≡ 0) × (book′ ≡ encode t) × (sheet′ ≡ encodeRows (openRows t)))
+    ((t : Tree) × ComesOf o t × (number ≡ 0) × (book′ ≡ encode t) × (sheet′ ≡ encodeRows (openRows t)))
 
 -- Load's answer: bytes taken, commands taken and 0 or the refusal
 pub record LoadAnswer : Type 0 where

@@ -14,7 +14,7 @@ use Rattle.definitions.specs.Book.{WellFormed, treeOf}
 use Rattle.definitions.specs.Sheet.{encodeRows}
 use Rattle.definitions.specs.Truth.{TrueSheet}
 use Rattle.definitions.specs.Load.{expected}
-use Rattle.definitions.specs.Open.{Opening, openTree, openRows}
+use Rattle.definitions.specs.Open.{Opening, ComesOf, openRows}
 use Rattle.definitions.specs.Answer.{Answer, gives, refuses}
 use Rattle.definitions.specs.Calls.{OpenSays, LoadAnswer, LoadSays, Plan, PlanSays}
 use Rattle.definitions.specs.Write.{written, WriteSays}
@@ -54,16 +54,16 @@ pub record NoWay (t : Tree) (a b : ℕ) (answer : Answer) : Type 0 where
 abbrev pub withRefresh : List (List ℕ) → List (List ℕ)
 withRefresh streams = streams ++ (refreshAlone ∷ [])
 
--- Demand 3, one claim on the whole list of calls and the Plan after it. Of an opening, streams of bytes of which the last is a refresh
--- alone, lists as opened, and lists that Load left for each stream in turn; of any two states of the expected station of all these
--- streams and any 255 bytes: Plan's answer is a good plan or "no way" of that station.
+-- Demand 3, one claim on the whole list of calls and the Plan after it. Of an opening (document 02, W-208: also from a table) and its tree, streams
+-- of bytes of which the last is a refresh alone, lists as opened, and lists that Load left for each stream in turn; of any two states of the
+-- expected station of all these streams and any 255 bytes: Plan's answer is a good plan or "no way" of that station.
 abbrev pub Demand3 : Type 0
 Demand3 =
-    (opening : Opening) (streams : List (List ℕ)) → All Bytes streams
+    (opening : Opening) (t : Tree) → ComesOf opening t → (streams : List (List ℕ)) → All Bytes streams
     → (lent lent-sheet opened opened-sheet book sheet : List ℕ)
-    → OpenSays (openTree opening) lent lent-sheet 0 opened opened-sheet
+    → OpenSays opening lent lent-sheet 0 opened opened-sheet
     → Loads opened opened-sheet (withRefresh streams) book sheet
-    → let station = expected (openTree opening) (withRefresh streams) in
+    → let station = expected t (withRefresh streams) in
     (a b : ℕ) → isState station a ≡ true → isState station b ≡ true
     → (buffer : List ℕ) → length buffer ≡ planBuffer → (answer : Answer) (buffer′ : List ℕ) → PlanSays book sheet a b buffer answer buffer′
     → GoodPlan station a b answer buffer′ ⊎ NoWay station a b answer

@@ -20,7 +20,7 @@ use Rattle.definitions.specs.Stream.{Edit, arrow, clear}
 use Rattle.definitions.specs.Edit.{edited, editedRows}
 use Rattle.definitions.specs.Answer.{Answer, gives, refuses, Refusal, asks, InOrder}
 use Rattle.definitions.specs.Calls.{LoadAnswer, LoadSays}
-use Rattle.definitions.specs.Write.{pair, arrowBytes, GivesBytes}
+use Rattle.definitions.specs.Write.{pair, arrowBytes, GivesList}
 
 -- a reading: seconds taken, or seconds waited without an end. A timing, a reading and the probe's own dead time, stands here as the two
 pub data Reading : Type 0 where
@@ -72,7 +72,7 @@ abbrev pub ImportSays : ℕ → ℕ → ℕ → Reading → Float → List ℕ �
 ImportSays n x v reading dead out answer out′ =
     InOrder (importRefusals n x v reading dead)
     (λ k. (answer ≡ refuses k) × (out′ ≡ out))
-    ((o : Option Transition) × Timed reading dead v o × GivesBytes (settingBytes n x o) out answer out′)
+    ((o : Option Transition) × Timed reading dead v o × GivesList (settingBytes n x o) out answer out′)
 
 -- the node is in use (taken: and the target is in its machine)
 abbrev pub Placed : Tree → ℕ → ℕ → Reading → Type 0

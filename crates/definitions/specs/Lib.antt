@@ -21,3 +21,4 @@ pub mod Mast
 pub mod Merge
 pub mod Import
 pub mod Walk
+pub mod Ladder

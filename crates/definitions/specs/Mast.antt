@@ -10,7 +10,7 @@ use Rattle.definitions.specs.Costs.{LeastCost, ExitCost}
 use Rattle.definitions.specs.Book.{encode}
 use Rattle.definitions.specs.Truth.{TrueSheet}
 use Rattle.definitions.specs.Load.{load, expected}
-use Rattle.definitions.specs.Open.{fresh, openTree}
+use Rattle.definitions.specs.Open.{freshTree}
 use Rattle.definitions.specs.Answer.{gives, refuses}
 use Rattle.definitions.specs.Calls.{StepSays, Plan, PlanSays}
 
@@ -36,7 +36,7 @@ clearing n x = 0x15 ∷ 0x00 ∷ n ∷ x ∷ []
 
 -- the station of the mast book, opened fresh, and after further streams
 unfoldable pub mastAfter : List (List ℕ) → Tree
-mastAfter streams = expected (openTree fresh) (mastStream ∷ streams)
+mastAfter streams = expected freshTree (mastStream ∷ streams)
 
 unfoldable pub mastTree : Tree
 mastTree = mastAfter []
@@ -49,7 +49,7 @@ pub record RefusedWith16 (t : Tree) (a b room : ℕ) : Type 0 where
 
 -- the starred examples
 pub record MastExamples : Type 0 where
-  pub whole : (load (openTree fresh) mastStream .bytes ≡ 70) × (load (openTree fresh) mastStream .number ≡ 0)
+  pub whole : (load freshTree mastStream .bytes ≡ 70) × (load freshTree mastStream .number ≡ 0)
   pub from-0-to-2 : Plan mastTree 0 2 12 (0 ∷ 2 ∷ 1 ∷ [])
   pub from-11-to-10 : Plan mastTree 11 10 15 (1 ∷ 0 ∷ 0 ∷ [])
   pub from-0-to-0 : Plan mastTree 0 0 0 []

@@ -58,16 +58,16 @@ written t =
     ++ (joined nodes (writtenHold t)
     ++ joined machines (writtenLeave t))))
 
--- bytes are given: their length, and the bytes at the front of the output, the rest untouched; 15 where the output is shorter, writing nothing
-abbrev pub GivesBytes : List ℕ → List ℕ → Answer → List ℕ → Type 0
-GivesBytes bytes out answer out′ =
-    InOrder (asksRoom 15 (length bytes) (length out) ∷ [])
+-- a list is given: its length, and itself at the front of the output, the rest untouched; 15 where the output is shorter, writing nothing
+abbrev pub GivesList : List ℕ → List ℕ → Answer → List ℕ → Type 0
+GivesList list out answer out′ =
+    InOrder (asksRoom 15 (length list) (length out) ∷ [])
     (λ k. (answer ≡ refuses k) × (out′ ≡ out))
-    ((answer ≡ gives (length bytes ∷ [])) × (out′ ≡ bytes ++ drop (length bytes) out))
+    ((answer ≡ gives (length list ∷ [])) × (out′ ≡ list ++ drop (length list) out))
 
 -- Write gives the stream. It refuses 1, 2 and 15, writing nothing
 abbrev pub WriteSays : List ℕ → List ℕ → Answer → List ℕ → Type 0
 WriteSays book out answer out′ =
     InOrder (bookRefusals book [])
     (λ k. (answer ≡ refuses k) × (out′ ≡ out))
-    (GivesBytes (written (treeOf book)) out answer out′)
+    (GivesList (written (treeOf book)) out answer out′)

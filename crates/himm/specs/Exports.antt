@@ -10,6 +10,7 @@ use lib.Ieee.{Float}
 use Rattle.definitions.specs.Answer.{Answer, wants, InOrder}
 use Rattle.definitions.specs.Calls.{LoadSays, ExitSays, StepSays, PlanSays}
 use Rattle.definitions.specs.Write.{WriteSays}
+use Rattle.definitions.specs.Ladder.{LadderSays}
 use Rattle.definitions.specs.Import.{Reading, took, waited, ImportSays}
 use Rattle.definitions.specs.Choose.{Choice, first, second, ChoiceSays}
 use Rattle.definitions.specs.Walk.{WalkSays}
@@ -18,7 +19,7 @@ use Rattle.definitions.specs.Walk.{WalkSays}
 abbrev pub outOf : Answer → ℕ → ℕ → ℕ
 outOf answer i old = getD (answer .values) i old
 
--- Exit, Step, Plan and Write: the returned number and the words, by the answer that document 01 gives (Step's node: document 02, W-202)
+-- Exit, Step and Plan: the returned number and the words, by the answer that document 01 gives (Step's node: document 02, W-202)
 pub record ExitReturns (book sheet : List ℕ) (m x cost number cost′ : ℕ) : Type 0 where
   pub answer : Answer
   pub says : ExitSays book sheet m x answer
@@ -40,11 +41,19 @@ pub record PlanReturns (book sheet : List ℕ) (a b : ℕ) (buffer : List ℕ) (
   pub cost-word : cost′ ≡ outOf answer 0 cost
   pub count-word : count′ ≡ outOf answer 1 count
 
-pub record WriteReturns (book out : List ℕ) (size number : ℕ) (out′ : List ℕ) (size′ : ℕ) : Type 0 where
+-- a call that gives a list: the returned number and the length, by the answer that the document gives
+pub record ListReturns (Says : Answer → List ℕ → Type 0) (size number : ℕ) (out′ : List ℕ) (size′ : ℕ) : Type 0 where
   pub answer : Answer
-  pub says : WriteSays book out answer out′
+  pub says : Says answer out′
   pub returned : number ≡ answer .number
   pub size-word : size′ ≡ outOf answer 0 size
+
+-- Write, and the generator of ladders (document 02, W-208)
+abbrev pub WriteReturns : (book out : List ℕ) (size number : ℕ) (out′ : List ℕ) (size′ : ℕ) → Type 0
+WriteReturns book out = ListReturns (WriteSays book out)
+
+abbrev pub LadderReturns : (depth : ℕ) (out : List ℕ) (size number : ℕ) (out′ : List ℕ) (size′ : ℕ) → Type 0
+LadderReturns depth out = ListReturns (LadderSays depth out)
 
 -- Load: the number and both counts, which are always stored
 abbrev pub LoadReturns : List ℕ → List ℕ → List ℕ → ℕ → ℕ → ℕ → List ℕ → List ℕ → Type 0
@@ -68,11 +77,8 @@ pub record ChooseReturns (book : List ℕ) (a b : ℕ) (one two : List ℕ) (lis
   pub used-word : used′ ≡ cond (eqb number 0) (countOf choice) used
 
 -- the import of a reading: the number and the length, by the answer that document 02 gives (W-203)
-pub record TimingReturns (n x v : ℕ) (reading : Reading) (dead : Float) (out : List ℕ) (size number : ℕ) (out′ : List ℕ) (size′ : ℕ) : Type 0 where
-  pub answer : Answer
-  pub says : ImportSays n x v reading dead out answer out′
-  pub returned : number ≡ answer .number
-  pub size-word : size′ ≡ outOf answer 0 size
+abbrev pub TimingReturns : (n x v : ℕ) (reading : Reading) (dead : Float) (out : List ℕ) (size number : ℕ) (out′ : List ℕ) (size′ : ℕ) → Type 0
+TimingReturns n x v reading dead out = ListReturns (ImportSays n x v reading dead out)
 
 -- the reading that a kind and its seconds are: 0 seconds taken, 1 seconds waited without an end
 abbrev pub readingAs : ℕ → Float → Option Reading

@@ -1,16 +1,17 @@
 // The public calls for C. Each returns a refusal's number, 0 for none; what a call gives is stored through pointers, and a refusal stores
 // nothing (Load's two counts are always stored). A list passes as a pointer and its length.
-ghost use Rattle.definitions.specs.Open.{freshTree, ladderTree};
+ghost use Rattle.definitions.specs.Open.{fresh, ladder, table};
 ghost use Rattle.definitions.specs.Calls.{OpenSays};
 ghost use Rattle.definitions.specs.Merge.{MergeSays};
 ghost use Rattle.definitions.specs.Walk.{OpenWalkersSay};
-ghost use Rattle.himm.specs.Exports.{LoadReturns, ExitReturns, StepReturns, PlanReturns, WriteReturns, ChooseReturns, TimingReturns, ImportReturns, WalkReturns};
+ghost use Rattle.himm.specs.Exports.{LoadReturns, LadderReturns, ExitReturns, StepReturns, PlanReturns, WriteReturns, ChooseReturns, TimingReturns, ImportReturns, WalkReturns};
 ghost use Rattle.importing.specs.Meaning.{readingOf};
 use choosing::Chosen;
 use exiting::ExitAnswer;
 use importing::ImportAnswer;
 use importing::Reading;
 use importing::Timing;
+use ladders::LadderAnswer;
 use planning::PlanAnswer;
 use stepping::StepAnswer;
 use writing::WriteAnswer;
@@ -18,7 +19,7 @@ use writing::WriteAnswer;
 // Open fresh: root 0 with start node 0. Refuses 1.
 #[no_mangle]
 pub extern "C" fn himm_open_fresh(book: &mut [u32], sheet: &mut [u32]) -> u32
-    ensures { λ r. ⌜ OpenSays freshTree (now (book .entry)) (now (sheet .entry)) r (now (book .exit)) (now (sheet .exit)) ⌝ }
+    ensures { λ r. ⌜ OpenSays fresh (now (book .entry)) (now (sheet .entry)) r (now (book .exit)) (now (sheet .exit)) ⌝ }
 {
     opening::open_fresh(book, sheet)
 }
@@ -26,9 +27,31 @@ pub extern "C" fn himm_open_fresh(book: &mut [u32], sheet: &mut [u32]) -> u32
 // Open ladder: the 63 machines of the ladder. Refuses 1.
 #[no_mangle]
 pub extern "C" fn himm_open_ladder(book: &mut [u32], sheet: &mut [u32]) -> u32
-    ensures { λ r. ⌜ OpenSays ladderTree (now (book .entry)) (now (sheet .entry)) r (now (book .exit)) (now (sheet .exit)) ⌝ }
+    ensures { λ r. ⌜ OpenSays ladder (now (book .entry)) (now (sheet .entry)) r (now (book .exit)) (now (sheet .exit)) ⌝ }
 {
     opening::open_ladder(book, sheet)
+}
+
+// Open from a table: the tree of a lent table's rows (owner, machine below, start) in place of the ladder's. Refuses 1, 2.
+#[no_mangle]
+pub extern "C" fn himm_open_table(rows: &[u32], book: &mut [u32], sheet: &mut [u32]) -> u32
+    ensures { λ r. ⌜ OpenSays (table (now (rows .entry))) (now (book .entry)) (now (sheet .entry)) r (now (book .exit)) (now (sheet .exit)) ⌝ }
+{
+    ladders::open_table(rows, book, sheet)
+}
+
+// The rows of the ladder of a depth at the front of out, and how many numbers they have. Refuses 24, 15.
+#[no_mangle]
+pub extern "C" fn himm_ladder(depth: u32, out: &mut [u32], length: &mut u32) -> u32
+    ensures { λ r. ⌜ LadderReturns depth (now (out .entry)) (now (length .entry)) r (now (out .exit)) (now (length .exit)) ⌝ }
+{
+    match ladders::ladder(depth, out) {
+        LadderAnswer::Written(words) => {
+            *length = words;
+            0
+        }
+        LadderAnswer::Refused(k) => k,
+    }
 }
 
 // Merge: a third book and its sheet from two books, a new root above both. Refuses 1, 2 (the first book), 2 (the second), 12, 19.

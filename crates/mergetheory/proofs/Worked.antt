@@ -17,7 +17,7 @@ use Rattle.definitions.specs.Mast.{mastStream, mastTree}
 use Rattle.definitions.specs.Merge.{Enough, MergeSays, MergeLeaves}
 use Rattle.definitions.proofs.Words.{encode-length, encodeRows-length, treeOf-encode, encode-well-formed}
 use Rattle.definitions.proofs.Kept.{expected-sound}
-use Rattle.definitions.proofs.Opened.{open-sound}
+use Rattle.definitions.proofs.Opened.{fresh-sound}
 use Rattle.definitions.proofs.Tests.{all-under}
 use Rattle.definitions.proofs.Mast.{mast-examples}
 use Rattle.definitions.proofs.Merges.{computing, twice, twice-merged}
@@ -27,7 +27,7 @@ use Rattle.mergetheory.proofs.Keeps.{merge-keeps}
 -- the mast book is sound, not over seven levels, and leaves numbers enough
 mast-sound : Sound mastTree
 unfolding computing
-mast-sound = expected-sound (open-sound fresh) (mastStream ∷ []) (all-under 256 mastStream refl, tt)
+mast-sound = expected-sound fresh-sound (mastStream ∷ []) (all-under 256 mastStream refl, tt)
 
 mast-high : (anyLowest mastTree || anyLowest mastTree) ≡ false
 unfolding computing

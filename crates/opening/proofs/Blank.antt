@@ -15,7 +15,8 @@ use Rattle.definitions.specs.Limits.{machines, nodes, commands, sheetLength, ab
 use Rattle.definitions.specs.Tree.{Tree, Transition, usedMachine, withRoot}
 use Rattle.definitions.specs.Book.{number, under, treeOf, machineWord, nodeWord, transitionOf}
 use Rattle.definitions.specs.Sheet.{Rows, rowsOf, encodeRows, machineRowWord, nodeRowWord, costOf}
-use Rattle.definitions.specs.Open.{lastUnder, rowOwner, rowBelow, nextLower, neighbour, linked, grown, openRows}
+use Rattle.definitions.specs.Open.{openRows}
+use Rattle.opening.specs.Rows.{lastUnder, rowOwner, rowBelow, nextLower, neighbour, linked, grown}
 use Rattle.definitions.proofs.Options.{equal-or-not, put-same, put-other}
 use Rattle.definitions.proofs.Words.{same-tree, same-rows, marks-words}
 use Rattle.book.specs.Fields.{withoutMachine, withoutNode}

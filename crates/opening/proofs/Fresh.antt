@@ -9,8 +9,9 @@ use borrow.Author.Tests.{ne-eqb}
 use Rattle.definitions.specs.Limits.{machines, absent}
 use Rattle.definitions.specs.Book.{word, number, under}
 use Rattle.definitions.specs.Edit.{single}
-use Rattle.definitions.specs.Open.{freshTree, lastUnder, cell, rowOwner, rowBelow, rowStart, nextLower, neighbour, linked}
-use Rattle.definitions.specs.Open.{grown, free, rootOf, rowTree}
+use Rattle.definitions.specs.Open.{freshTree, cell}
+use Rattle.opening.specs.Rows.{lastUnder, rowOwner, rowBelow, rowStart, nextLower, neighbour, linked}
+use Rattle.opening.specs.Rows.{grown, free, rootOf, rowTree}
 use Rattle.definitions.proofs.Words.{same-tree}
 use Rattle.opening.proofs.Last.{last-is}
 use Rattle.opening.proofs.Growth.{under-out, under-none}

@@ -14,11 +14,12 @@ use Rattle.definitions.specs.Limits.{machines, nodes, absent}
 use Rattle.definitions.specs.Tree.{Tree, Transition, withOwner, withBelow}
 use Rattle.definitions.specs.Book.{word, number, under, treeOf}
 use Rattle.definitions.specs.Edit.{withTransition}
-use Rattle.definitions.specs.Open.{lastUnder, cell, rowOwner, rowBelow, rowStart, nextLower, neighbour, linked, grown}
+use Rattle.definitions.specs.Open.{cell}
+use Rattle.opening.specs.Rows.{lastUnder, rowOwner, rowBelow, rowStart, nextLower, neighbour, linked, grown}
 use Rattle.definitions.proofs.Options.{equal-or-not, put-same, put-other, bind-some, isAt-some, isAt-other}
 use Rattle.definitions.proofs.Words.{under-in}
 use Rattle.book.specs.Fields.{Holds}
-use Rattle.opening.specs.Writes.{withClaimed, withStarted, withLinks}
+use Rattle.opening.specs.Writes.{withHeld, withStarted, withLinks}
 use Rattle.opening.proofs.Last.{last-pass, last-skip, last-under}
 use Rattle.opening.proofs.Reading.{says}
 
@@ -209,8 +210,8 @@ module _ (rows : List ℕ) where
 
     -- node n as the holder of that machine
     holder-row : (o b s : ℕ → Option ℕ) (x : ℕ → ℕ → Option Transition) (w : ℕ) → w ≡ cell rows n 1
-        → withClaimed (rootless o b s (holders n) x) n w ≡ rootless o b s (holders (suc n)) x
-    unfolding withClaimed rowBelow
+        → withHeld (rootless o b s (holders n) x) n w ≡ rootless o b s (holders (suc n)) x
+    unfolding withHeld rowBelow
     holder-row o b s x w e =
         cond-of (λ f. rootless o b s f x) (ltb w machines) (put (holders n) w (some n)) (holders n)
         ∙ ap (λ f. rootless o b s f x)
@@ -242,13 +243,13 @@ module _ (rows : List ℕ) where
     -- row n is written, one field or two after the other
     pub row-written : (o b s l : ℕ) {w₀ w₁ w₂ w₃ w₄ w₅ : List ℕ} → o ≡ cell rows n 0 → b ≡ cell rows n 1 → s ≡ cell rows n 2
         → l ≡ word (nextLower rows n) → Holds w₀ (grown rows n absent) → Holds w₁ (withOwner (treeOf w₀) n (number o))
-        → Holds w₂ (withBelow (treeOf w₁) n (number b)) → Holds w₃ (withClaimed (treeOf w₂) n b) → Holds w₄ (withStarted (treeOf w₃) n o s)
+        → Holds w₂ (withBelow (treeOf w₁) n (number b)) → Holds w₃ (withHeld (treeOf w₂) n b) → Holds w₄ (withStarted (treeOf w₃) n o s)
         → Holds w₅ (withLinks (treeOf w₄) n l) → Holds w₅ (grown rows (suc n) absent)
     unfolding grown
     row-written o b s l eo eb es el begun owner below holder start link =
         let h₁ = holds-on (λ t. withOwner t n (number o)) (owner-row (belows n) (starts n) (holders n) (linked rows n) o eo) begun owner in
         let h₂ = holds-on (λ t. withBelow t n (number b)) (below-row (owners (suc n)) (starts n) (holders n) (linked rows n) b eb) h₁ below in
-        let h₃ = holds-on (λ t. withClaimed t n b) (holder-row (owners (suc n)) (belows (suc n)) (starts n) (linked rows n) b eb) h₂ holder in
+        let h₃ = holds-on (λ t. withHeld t n b) (holder-row (owners (suc n)) (belows (suc n)) (starts n) (linked rows n) b eb) h₂ holder in
         let h₄ =
         holds-on (λ t. withStarted t n o s) (start-row (owners (suc n)) (belows (suc n)) (holders (suc n)) (linked rows n) o s eo es) h₃ start in
         holds-on (λ t. withLinks t n l) (link-row (owners (suc n)) (belows (suc n)) (starts (suc n)) (holders (suc n)) l el) h₄ link

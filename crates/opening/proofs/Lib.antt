@@ -4,5 +4,6 @@ pub mod Reading
 pub mod Growth
 pub mod Blank
 pub mod Says
+pub mod Comes
 pub mod Fresh
 pub mod Ladder

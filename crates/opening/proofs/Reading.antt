@@ -13,7 +13,8 @@ use borrow.Author.Tests.{eq-eqb, ne-eqb}
 use Rattle.definitions.specs.Basics.{isSome, isAt}
 use Rattle.definitions.specs.Limits.{machines, nodes, costs, absent}
 use Rattle.definitions.specs.Book.{word, number, under, transitionWord, transitionOf, machineWord, treeOf}
-use Rattle.definitions.specs.Open.{lastUnder, cell, rowOwner, nextLower, neighbour, free}
+use Rattle.definitions.specs.Open.{cell}
+use Rattle.opening.specs.Rows.{lastUnder, rowOwner, nextLower, neighbour, free}
 use Rattle.definitions.proofs.Options.{equal-or-not, some-same}
 use Rattle.definitions.proofs.Words.{transition-word}
 use Rattle.opening.proofs.Last.{last-is, last-skip}

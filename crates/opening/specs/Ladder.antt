@@ -1,20 +1,16 @@
--- Document 01, "Opening": what the table of Open ladder says at each place, by the rule.
-use mathlib.Core.Bool.{Bool, cond}
-use Prim.Native.Nat.{ℕ, zero, suc, _*_, _/_, _%_}
+-- Document 01, "Opening": what the constant table of Open ladder says at each place, by the rule (document 02, W-208: the generator's rows).
+use mathlib.Core.Bool.{Bool}
+use Prim.Native.Nat.{ℕ, _*_, _/_, _%_}
 use lib.Dec.{eqb}
-use Rattle.definitions.specs.Book.{word}
-use Rattle.definitions.specs.Open.{ladderNodes, ladderBelow, rowLength}
-
--- row n, by its places: owner n / 3, machine below by the ladder's rule, and 1 where n % 3 is 1
-abbrev pub ladderCell : ℕ → ℕ → ℕ
-ladderCell n zero = n / 3
-ladderCell n (suc zero) = word (ladderBelow n)
-ladderCell n (suc (suc k)) = cond (eqb (n % 3) 1) 1 0
+use lib.ListN.{getD}
+use Rattle.definitions.specs.Limits.{absent}
+use Rattle.definitions.specs.Open.{ladderMachines, rowLength}
+use Rattle.definitions.specs.Ladder.{ladderRow}
 
 -- how many numbers the table has
 abbrev pub ladderLength : ℕ
-ladderLength = ladderNodes * rowLength
+ladderLength = 3 * ladderMachines * rowLength
 
--- whether the number x stands rightly at place i
+-- whether the number x stands rightly at place i: row i / 3 has it at its place i % 3
 unfoldable pub ladderRight : ℕ → ℕ → Bool
-ladderRight i x = eqb x (ladderCell (i / rowLength) (i % rowLength))
+ladderRight i x = eqb x (getD (ladderRow ladderMachines (i / rowLength)) (i % rowLength) absent)

@@ -1,2 +1,3 @@
 pub mod Ladder
 pub mod Writes
+pub mod Rows

@@ -2,18 +2,20 @@
 // their table alone.
 ghost use mathlib.Core.Path.{_≡_};
 ghost use mathlib.Core.List.{List};
-ghost use Prim.Native.Nat.{ℕ, _+_, _≤_, _<_};
+ghost use Prim.Native.Nat.{ℕ, _+_, _*_, _-_, _^_, _≤_, _<_};
 ghost use lib.Dec.{eqb};
 ghost use lib.ListN.{length};
 ghost use Rattle.definitions.specs.Limits.{machines, nodes, bookLength, sheetLength, absent};
 ghost use Rattle.definitions.specs.Tree.{usedMachine};
 ghost use Rattle.definitions.specs.Book.{word, encode, treeOf};
 ghost use Rattle.definitions.specs.Sheet.{encodeRows};
-ghost use Rattle.definitions.specs.Open.{freshTree, ladderTree, openRows};
-ghost use Rattle.definitions.specs.Open.{rowLength, rowCount, cell, nextLower, grown, free, rootOf, rowTree};
+ghost use Rattle.definitions.specs.Open.{fresh, ladder, ladderMachines, openRows};
+ghost use Rattle.definitions.specs.Ladder.{ladderRows};
+ghost use Rattle.definitions.specs.Open.{rowLength, rowCount, cell};
+ghost use Rattle.opening.specs.Rows.{nextLower, grown, free, rootOf, rowTree};
 ghost use Rattle.definitions.specs.Calls.{OpenSays};
 ghost use Rattle.book.specs.Fields.{Holds};
-ghost use Rattle.opening.specs.Writes.{withClaimed, withStarted, withLinks};
+ghost use Rattle.opening.specs.Writes.{OpenedAs, withHeld, withStarted, withLinks};
 
 mod table;
 
@@ -39,7 +41,7 @@ fn clear(book: &mut [u32])
 }
 
 // The number at place k of row n.
-fn row(rows: &[u32], n: u32, k: u32) -> u32
+pub fn row(rows: &[u32], n: u32, k: u32) -> u32
     requires { ⌜ (n < rowCount (now rows)) × (n < nodes) × (k < rowLength) ⌝ }
     ensures { λ r. ⌜ r ≡ cell (now (rows .entry)) n k ⌝ }
 {
@@ -69,7 +71,7 @@ fn lower(rows: &[u32], n: u32) -> u32
 // Writes node n as the holder of the machine below it, where there is one.
 fn set_holder(book: &mut [u32], n: u32, below: u32)
     requires { ⌜ (length (now book) ≡ bookLength) × (n < nodes) ⌝ }
-    ensures { λ _. ⌜ Holds (now (book .exit)) (withClaimed (treeOf (now (book .entry))) n below) ⌝ }
+    ensures { λ _. ⌜ Holds (now (book .exit)) (withHeld (treeOf (now (book .entry))) n below) ⌝ }
 {
     if below < book::MACHINES {
         book::set_holder(book, below, n);
@@ -155,7 +157,7 @@ fn root(book: &[u32]) -> u32
 }
 
 // Writes the book of a table's rows.
-fn open_book(book: &mut [u32], rows: &[u32])
+pub fn open_book(book: &mut [u32], rows: &[u32])
     requires { ⌜ (length (now book) ≡ bookLength) × (rowCount (now rows) ≤ nodes) ⌝ }
     ensures { λ _. ⌜ Holds (now (book .exit)) (rowTree (now (rows .entry))) ⌝ }
 {
@@ -196,7 +198,7 @@ pub fn open_sheet(book: &[u32], sheet: &mut [u32])
 }
 
 // Opens the tree of a table's rows: writes every word of both lists.
-fn open_rows(book: &mut [u32], sheet: &mut [u32], rows: &[u32])
+pub fn open_rows(book: &mut [u32], sheet: &mut [u32], rows: &[u32])
     requires { ⌜ (length (now book) ≡ bookLength) × (length (now sheet) ≡ sheetLength) × (rowCount (now rows) ≤ nodes) ⌝ }
     ensures book { λ _. ⌜ now (book .exit) ≡ encode (rowTree (now (rows .entry))) ⌝ }
     ensures sheet { λ _. ⌜ now (sheet .exit) ≡ encodeRows (openRows (rowTree (now (rows .entry)))) ⌝ }
@@ -206,10 +208,10 @@ fn open_rows(book: &mut [u32], sheet: &mut [u32], rows: &[u32])
 }
 
 // Opens the tree of a table's rows where both lists have their lengths, and gives 0; else 1, and nothing is written.
-fn open_table(book: &mut [u32], sheet: &mut [u32], rows: &[u32]) -> u32
+fn open_checked(book: &mut [u32], sheet: &mut [u32], rows: &[u32]) -> u32
     requires { ⌜ rowCount (now rows) ≤ nodes ⌝ }
     ensures { λ r.
-        ⌜ OpenSays (rowTree (now (rows .entry))) (now (book .entry)) (now (sheet .entry)) r (now (book .exit)) (now (sheet .exit)) ⌝ }
+        ⌜ OpenedAs (rowTree (now (rows .entry))) (now (book .entry)) (now (sheet .entry)) r (now (book .exit)) (now (sheet .exit)) ⌝ }
 {
     if book.len() != book::BOOK {
         return 1;
@@ -224,15 +226,23 @@ fn open_table(book: &mut [u32], sheet: &mut [u32], rows: &[u32]) -> u32
 // Open fresh: makes root 0 with start node 0, marked, in the book and the sheet, and gives 0. It refuses a wrong length of either list
 // with 1 and then writes nothing.
 pub fn open_fresh(book: &mut [u32], sheet: &mut [u32]) -> u32
-    ensures { λ r. ⌜ OpenSays freshTree (now (book .entry)) (now (sheet .entry)) r (now (book .exit)) (now (sheet .exit)) ⌝ }
+    ensures { λ r. ⌜ OpenSays fresh (now (book .entry)) (now (sheet .entry)) r (now (book .exit)) (now (sheet .exit)) ⌝ }
 {
-    open_table(book, sheet, &table::FRESH)
+    open_checked(book, sheet, &table::FRESH)
 }
 
 // Open ladder: makes the ladder's 63 machines, all marked, in the book and the sheet, and gives 0. It refuses a wrong length of either
 // list with 1 and then writes nothing.
 pub fn open_ladder(book: &mut [u32], sheet: &mut [u32]) -> u32
-    ensures { λ r. ⌜ OpenSays ladderTree (now (book .entry)) (now (sheet .entry)) r (now (book .exit)) (now (sheet .exit)) ⌝ }
+    ensures { λ r. ⌜ OpenSays ladder (now (book .entry)) (now (sheet .entry)) r (now (book .exit)) (now (sheet .exit)) ⌝ }
 {
-    open_table(book, sheet, &table::LADDER)
+    open_checked(book, sheet, &table::LADDER)
+}
+
+// The number at place k of row n of Open ladder's constant table: its rows are those that the generator writes for depth 6 (document 02, W-208).
+pub fn ladder_number(n: u32, k: u32) -> u32
+    requires { ⌜ (n < 3 * ladderMachines) × (k < rowLength) ⌝ }
+    ensures { λ r. ⌜ r ≡ cell (ladderRows (2 ^ 6 - 1)) n k ⌝ }
+{
+    row(&table::LADDER, n, k)
 }

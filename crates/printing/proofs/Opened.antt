@@ -7,7 +7,7 @@ use lib.ListN.{length}
 use Rattle.definitions.specs.Limits.{bookLength, sheetLength}
 use Rattle.definitions.specs.Book.{encode}
 use Rattle.definitions.specs.Sheet.{encodeRows}
-use Rattle.definitions.specs.Open.{freshTree, openRows}
+use Rattle.definitions.specs.Open.{freshTree, fresh, openRows}
 use Rattle.definitions.specs.Calls.{OpenSays}
 use Rattle.definitions.proofs.Words.{treeOf-encode, encode-well-formed, rowsOf-encodeRows}
 use Rattle.definitions.proofs.Opened.{fresh-sound}
@@ -27,6 +27,6 @@ fresh-words =
 
 -- what Open fresh leaves where both lengths are right
 pub opened-fresh : {book sheet : List ℕ} {number : ℕ} {book′ sheet′ : List ℕ} → length book ≡ bookLength → length sheet ≡ sheetLength
-    → OpenSays freshTree book sheet number book′ sheet′ → OpenedFresh book′ sheet′
+    → OpenSays fresh book sheet number book′ sheet′ → OpenedFresh book′ sheet′
 opened-fresh long wide (inl (wrong, met)) = absurd (wrong (long, wide))
-opened-fresh long wide (inr (right, done)) = rw (done .1, done .2) fresh-words
+opened-fresh long wide (inr (right, (t, comes, zero, written, filled))) = rw (written, filled, comes) fresh-words

@@ -27,6 +27,8 @@ use crate::station::transition;
 use crate::stream;
 use crate::stream::Bytes;
 use crate::stream::wide;
+use crate::tables;
+use crate::tables::Rows;
 use crate::tally;
 use crate::tally::LOAD;
 use crate::tally::PLAN;
@@ -124,6 +126,33 @@ fn compare_marks(sheet: &Sheet, s: &Station, tally: &mut Tally) {
 pub fn compare_words(book: &Book, sheet: &Sheet, s: &Station, tally: &mut Tally) {
     compare_book(book, s, tally);
     compare_marks(sheet, s, tally);
+}
+
+// Opens the front of a table.
+fn open_front(rows: &[u32], length: usize, book: &mut [u32], sheet: &mut [u32]) -> u32 {
+    if rows.len() < length {
+        return 0;
+    }
+    ladders::open_table(&rows[..length], book, sheet)
+}
+
+// Opens so many rows of a table in the own station and in the holding; where they do not open, the table is to be refused with 2, and all stays.
+pub fn open_both(
+    book: &mut Book,
+    sheet: &mut Sheet,
+    s: &mut Station,
+    rows: &Rows,
+    lent: u32,
+    tally: &mut Tally,
+) {
+    let why = tables::open(s, rows, lent);
+    count(tally, tally::TABLES + why % 8, 1);
+    let got = open_front(rows, 3 * (lent as usize), book, sheet);
+    let right = if why == 0 { 0 } else { 2 };
+    if got != right {
+        differs(tally, b"table", why, got);
+    }
+    compare_words(book, sheet, s, tally);
 }
 
 // Load on the stream's front.

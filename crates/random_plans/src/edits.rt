@@ -48,12 +48,17 @@ fn mark_up(s: &mut Station, m: u32) {
     }
 }
 
-// Empties the station, and leaves only machine m, as root, with its start node.
-pub fn begin(s: &mut Station, m: u32, n: u32) {
+// Empties the station.
+pub fn empty(s: &mut Station) {
     *s = [NONE; WORDS];
     unmark(s);
     release(s);
     waive(s);
+}
+
+// Empties the station, and leaves only machine m, as root, with its start node.
+pub fn begin(s: &mut Station, m: u32, n: u32) {
+    empty(s);
     put(s, ROOT, 0, m);
     put(s, START, m, n);
     add(s, m, n);
@@ -74,7 +79,7 @@ pub fn refine(s: &mut Station, n: u32, m: u32, first: u32) {
 }
 
 // Gives node n a transition for x, or with "none" twice takes it away.
-fn set_transition(s: &mut Station, n: u32, x: u32, v: u32, c: u32) {
+pub fn set_transition(s: &mut Station, n: u32, x: u32, v: u32, c: u32) {
     if x < COMMANDS {
         put(s, TARGET + x, n, v);
         put(s, COST + x, n, c);

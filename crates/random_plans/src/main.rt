@@ -1,7 +1,7 @@
 // Random books, with nodes held and with none, with leaving charges and with none, edited by random streams and planned for pairs of states;
-// all that Load and Plan answer and leave is compared with a station of the test's own, kept from the streams' bytes alone, and with a flat
-// search on it. Then document 01's examples of plan buffers and numbers of nodes on the mast book, the longest plan that there can be, and
-// the dearest.
+// some are opened from random tables, and damaged tables are refused. All that Open, Load and Plan answer and leave is compared with a station
+// of the test's own, kept from the tables' rows and the streams' bytes alone, and with a flat search on it. Then document 01's examples of
+// plan buffers and numbers of nodes on the mast book, the longest plan that there can be, and the dearest.
 mod chance;
 mod compare;
 mod edits;
@@ -10,6 +10,7 @@ mod making;
 mod shapes;
 mod station;
 mod stream;
+mod tables;
 mod tally;
 
 use chance::ANY;
@@ -25,6 +26,7 @@ use compare::compare_words;
 use compare::count_changed;
 use compare::load_both;
 use compare::longest;
+use compare::open_both;
 use flat::Moves;
 use shapes::of;
 use station::NODES;
@@ -235,6 +237,23 @@ fn count_book(s: &Station, tally: &mut Tally) {
     }
 }
 
+// Opens a random table, where the shape is opened so; a table that does not open leaves the holding as it is.
+fn open_table(
+    book: &mut Book,
+    sheet: &mut Sheet,
+    s: &mut Station,
+    seed: &mut u64,
+    opening: u32,
+    tally: &mut Tally,
+) {
+    if opening != 2 {
+        return;
+    }
+    let mut rows = [0u32; 567];
+    let lent = tables::make(seed, &mut rows);
+    open_both(book, sheet, s, &rows, lent, tally);
+}
+
 // Builds a book, in a holding opened anew or on what the last book left, and edits it.
 fn run_book(
     book: &mut Book,
@@ -244,10 +263,11 @@ fn run_book(
     shape: u32,
     tally: &mut Tally,
 ) {
-    let ladder = of(shape, shapes::LADDER) == 1;
-    if ladder || once_in(seed, 2) {
-        open(book, sheet, s, ladder, tally);
+    let opening = of(shape, shapes::OPENING);
+    if opening == 1 || once_in(seed, 2) {
+        open(book, sheet, s, opening == 1, tally);
     }
+    open_table(book, sheet, s, seed, opening, tally);
     run_stream(book, sheet, s, seed, shape, true, tally);
     let streams = of(shape, shapes::STREAMS);
     let mut i = 0u32;
@@ -373,6 +393,7 @@ fn main() {
     run_shape(b"ladder", 5);
     run_shape(b"crowded", 6);
     run_shape(b"edited", 7);
+    run_shape(b"tables", 8);
     mast();
     line_book();
     dearest_book();

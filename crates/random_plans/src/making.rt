@@ -280,10 +280,10 @@ fn repeat(
     end
 }
 
-// Writes the stream that builds a book of a shape, and gives its length. The ladder is built on.
+// Writes the stream that builds a book of a shape, and gives its length. The ladder and the tree of a table are built on.
 fn build(s: &mut Station, seed: &mut u64, shape: u32, stream: &mut Bytes) -> usize {
-    let ladder = of(shape, shapes::LADDER) == 1;
-    let a = if ladder {
+    let opened = of(shape, shapes::OPENING) != 0;
+    let a = if opened {
         0
     } else {
         extend(s, seed, shape, BEGIN, stream, 0)

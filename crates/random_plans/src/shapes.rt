@@ -1,7 +1,7 @@
 // The shapes of the random books: a row of numbers for each.
 
-// The columns of a row. 1: opened as the ladder, and built on that.
-pub const LADDER: u32 = 0;
+// The columns of a row. 1: opened as the ladder, 2: from a random table; and built on that.
+pub const OPENING: u32 = 0;
 // The largest cost.
 pub const LARGEST: u32 = 1;
 // Of eight costs, so many are 0.
@@ -51,8 +51,10 @@ const LADDER_BOOKS: Row = [1, 65535, 1, 5, 6, 2, 20, 4, 0, 0, 0, 0, 20, 10, 18, 
 const CROWDED_BOOKS: Row = [0, 500, 2, 16, 4, 2, 20, 3, 20, 5, 54, 160, 750, 40, 36, 0];
 // Small books, with many streams each.
 const EDITED_BOOKS: Row = [0, 50, 2, 8, 18, 8, 30, 40, 2, 1, 1, 4, 30, 3, 5, 1];
+// Random tables: planned as they are, then edited.
+const TABLE_BOOKS: Row = [2, 99, 1, 5, 120, 1, 16, 4, 0, 0, 0, 0, 0, 0, 0, 0];
 
-const TABLE: [Row; 8] = [
+const TABLE: [Row; 9] = [
     DEEP_BOOKS,
     WIDE_BOOKS,
     ZERO_BOOKS,
@@ -61,11 +63,12 @@ const TABLE: [Row; 8] = [
     LADDER_BOOKS,
     CROWDED_BOOKS,
     EDITED_BOOKS,
+    TABLE_BOOKS,
 ];
 
 // What a shape has in a column.
 pub fn of(shape: u32, column: u32) -> u32 {
-    if shape >= 8 {
+    if shape >= 9 {
         return 0;
     }
     if column >= 16 {

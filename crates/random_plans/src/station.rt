@@ -154,7 +154,7 @@ pub fn states(s: &Station) -> u32 {
 }
 
 // 1 where it holds, else 0.
-fn one_if(b: bool) -> u32
+pub fn one_if(b: bool) -> u32
     ensures { λ r. ⌜ r ≤ 1 ⌝ }
 {
     if b { 1 } else { 0 }

@@ -2,7 +2,7 @@
 use libc::STDOUT_FILENO;
 
 // All places.
-pub const PLACES: usize = 77;
+pub const PLACES: usize = 82;
 
 pub type Tally = [u64; PLACES];
 
@@ -41,6 +41,10 @@ pub const CHANGED_BY_CHARGES: u32 = 74;
 pub const CHARGED_BOOKS: u32 = 75;
 
 pub const DEAREST: u32 = 76;
+
+// Tables that opened, and after them those that were refused: for a row by itself, for the starts and holders of a machine, for the roots, for the
+// levels.
+pub const TABLES: u32 = 77;
 
 // The count at a place.
 pub fn get(tally: &Tally, i: u32) -> u64 {
@@ -90,7 +94,7 @@ fn refusals(tally: &Tally, base: u32) {
     }
 }
 
-// The line of a shape: what was compared, the refusals that were met, and how many differences there were.
+// The line of a shape: what was compared, the refusals that were met, and how many differences there were; and the line of its tables.
 pub fn line(name: &[u8], tally: &Tally) {
     text(name);
     say(b": books ", get(tally, BOOKS));
@@ -112,6 +116,19 @@ pub fn line(name: &[u8], tally: &Tally) {
     refusals(tally, PLAN);
     say(b"; ", get(tally, DIFFERENCES));
     text(b" differences\n");
+    if get(tally, TABLES) != 0 {
+        table_line(tally);
+    }
+}
+
+// The line of the tables.
+fn table_line(tally: &Tally) {
+    say(b"tables opened ", get(tally, TABLES));
+    say(b", refused for a row ", get(tally, TABLES + 1));
+    say(b", for starts or holders ", get(tally, TABLES + 2));
+    say(b", for roots ", get(tally, TABLES + 3));
+    say(b", for levels ", get(tally, TABLES + 4));
+    text(b"\n");
 }
 
 // Counts a difference, and says of the first few what differs, in which stream of the shape, and at which two numbers.

@@ -1,4 +1,5 @@
-// The whole run of demand 3, run: openings and lists of streams, refused commands among them, with the plan after them; and each refusal.
+// The whole run of demand 3, run: openings and lists of streams, refused commands among them, with the plan after them; and each refusal. The
+// rows of a table (document 02, W-208) are three words each: owner, machine below, and 1 for a start.
 use libc::STDOUT_FILENO;
 use planning::PlanAnswer;
 use wholerun::Opening;
@@ -55,13 +56,22 @@ fn show(text: &[u8], answer: RunAnswer, buffer: &[u8; 255]) {
     io::write_all(STDOUT_FILENO, b"\n");
 }
 
-// Runs streams on an opening and writes the answer.
-fn run(text: &[u8], opening: Opening, bytes: &[u8], ends: &[usize], a: u32, b: u32) {
+// Runs streams on an opening, which looks at the rows where it is from a table, and writes the answer.
+fn run_rows(
+    text: &[u8],
+    opening: Opening,
+    rows: &[u32],
+    bytes: &[u8],
+    ends: &[usize],
+    a: u32,
+    b: u32,
+) {
     let mut book = [0u32; book::BOOK];
     let mut sheet = [0u32; sheet::SHEET];
     let mut buffer = [0u8; 255];
     let answer = wholerun::whole_run(
         opening,
+        rows,
         &mut book,
         &mut sheet,
         bytes,
@@ -71,6 +81,41 @@ fn run(text: &[u8], opening: Opening, bytes: &[u8], ends: &[usize], a: u32, b: u
         &mut buffer,
     );
     show(text, answer, &buffer);
+}
+
+// The same on an opening without a table.
+fn run(text: &[u8], opening: Opening, bytes: &[u8], ends: &[usize], a: u32, b: u32) {
+    run_rows(text, opening, &[], bytes, ends, a, b);
+}
+
+// A table with gaps: machine 5, the root, has the nodes 1, 3 and 6 and starts at 1; node 3 holds machine 9, with 2 and 5, which starts at 5.
+const GAPS: [u32; 21] = [
+    65535, // node 0
+    65535,
+    0,
+    5, // node 1
+    65535,
+    1,
+    9, // node 2
+    65535,
+    0,
+    5, // node 3
+    9,
+    0,
+    65535, // node 4
+    65535,
+    0,
+    9, // node 5
+    65535,
+    1,
+    5, // node 6
+    65535,
+    0,
+];
+
+// Streams on that table.
+fn run_gaps(text: &[u8], bytes: &[u8], ends: &[usize], a: u32, b: u32) {
+    run_rows(text, Opening::Table, &GAPS, bytes, ends, a, b);
 }
 
 // The mast book in one stream, then one in which a command is refused and the rest is skipped, then one that is taken.
@@ -101,6 +146,7 @@ fn long_sheet() {
     let mut buffer = [7u8; 255];
     let answer = wholerun::whole_run(
         Opening::Fresh,
+        &[],
         &mut book,
         &mut sheet,
         b"",
@@ -120,6 +166,7 @@ fn short_buffer() {
     let mut buffer = [7u8; 254];
     let answer = wholerun::whole_run(
         Opening::Fresh,
+        &[],
         &mut book,
         &mut sheet,
         b"",
@@ -130,6 +177,53 @@ fn short_buffer() {
     );
     show(b"a short buffer:", answer, &[0u8; 255]);
     show_lists(book[0], sheet[0], buffer[0]);
+}
+
+// A table that is refused, before the plan's states are looked at.
+fn refused_table(text: &[u8], rows: &[u32], bytes: &[u8], ends: &[usize]) {
+    let mut book = [7u32; book::BOOK];
+    let mut sheet = [7u32; sheet::SHEET];
+    let mut buffer = [7u8; 255];
+    let answer = wholerun::whole_run(
+        Opening::Table,
+        rows,
+        &mut book,
+        &mut sheet,
+        bytes,
+        ends,
+        300,
+        0,
+        &mut buffer,
+    );
+    show(text, answer, &buffer);
+    show_lists(book[0], sheet[0], buffer[0]);
+}
+
+// Runs on a table with gaps, and tables that do not open.
+fn tables() {
+    run_gaps(b"a table with gaps, 1 to 6:", b"", &[], 1, 6);
+    run_gaps(b"6 to 2:", b"", &[], 6, 2);
+    run_gaps(
+        b"1 to 6 by a transition set, one into another machine being refused, and node 3's cleared:",
+        b"\x14\x00\x01\x02\x00\x06\x00\x0A\x14\x00\x01\x01\x00\x02\x00\x01\x15\x00\x01\x02\x15\x00\x03\x01",
+        &[20, 24],
+        1,
+        6,
+    );
+    run_gaps(b"an unused row:", b"", &[], 1, 4);
+    refused_table(
+        b"a machine with two starts:",
+        &[0, 65535, 1, 0, 65535, 1],
+        b"\x18",
+        &[1],
+    );
+    refused_table(b"a row and a word:", &[0, 65535, 1, 0], b"\x18", &[1]);
+    refused_table(
+        b"malformed ends before it:",
+        &[0, 65535, 1, 0],
+        b"\x18",
+        &[],
+    );
 }
 
 fn main() {
@@ -182,4 +276,5 @@ fn main() {
     );
     long_sheet();
     short_buffer();
+    tables();
 }

@@ -13,7 +13,7 @@ use Rattle.definitions.specs.Answer.{gives, refuses}
 use Rattle.definitions.specs.Calls.{bookRefusals, LoadAnswer, LoadDone}
 use Rattle.definitions.specs.Write.{written, WriteSays}
 use Rattle.definitions.specs.Demand.{SameBook}
-use Rattle.definitions.proofs.Answers.{given-refused, bytes-given, in-order-done, load-done}
+use Rattle.definitions.proofs.Answers.{given-refused, list-given, in-order-done, load-done}
 use Rattle.definitions.proofs.Words.{well-formed-words}
 use Rattle.samebook.proofs.Back.{WrittenBack, written-back}
 
@@ -24,7 +24,7 @@ wrote book out out′ size says =
     let (passed, given) =
     in-order-done (bookRefusals book []) refl {R = λ k. (gives (size ∷ []) ≡ refuses k) × (out′ ≡ out)}
     (λ k other refused. given-refused refl (refused .0)) says in
-    let (counted, stream) = bytes-given (written (treeOf book)) out out′ size given in
+    let (counted, stream) = list-given (written (treeOf book)) out out′ size given in
     (passed .1 .0, counted, stream)
 
 -- the clause, where the book that is written is known to be well formed

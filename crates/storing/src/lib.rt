@@ -1,5 +1,5 @@
-// Bytes stored one after the other in a lent list. A store goes as far as the list does and gives the next place, so that what is too long
-// is measured and not written.
+// Bytes, and words, stored one after the other in a lent list. A store goes as far as the list does and gives the next place, so that what is too
+// long is measured and not written.
 ghost use mathlib.Core.List.{[], _∷_, _++_};
 ghost use Prim.Native.Nat.{_+_, _<_, _^_};
 ghost use Rattle.definitions.specs.Limits.{nodes, commands};
@@ -15,6 +15,18 @@ pub fn put_byte(out: &mut [u8], at: usize, b: u32) -> usize
         return at + 1;
     }
     out[at] = b as u8;
+    at + 1
+}
+
+// The same for a word.
+pub fn put_word(out: &mut [u32], at: usize, w: u32) -> usize
+    requires { ⌜ at + 1 < 2 ^ 64 ⌝ }
+    ensures { λ r. ⌜ Stored (now (out .entry)) at (w ∷ []) r (now (out .exit)) ⌝ }
+{
+    if out.len() <= at {
+        return at + 1;
+    }
+    out[at] = w;
     at + 1
 }
 

@@ -19,16 +19,16 @@ use Rattle.definitions.specs.Truth.{TrueSheet}
 use Rattle.definitions.specs.Stream.{refresh, operandLength, decode}
 use Rattle.definitions.specs.Edit.{refusal}
 use Rattle.definitions.specs.Load.{Outcome, load, stopped, after, expected}
-use Rattle.definitions.specs.Open.{Opening, openTree}
+use Rattle.definitions.specs.Open.{Opening, ComesOf}
 use Rattle.definitions.specs.Answer.{Answer, refuses, InOrder}
 use Rattle.definitions.specs.Calls.{OpenSays, LoadAnswer, LoadDone, LoadSays, GivesPlan, planRefusals, PlanSays}
 use Rattle.definitions.specs.Demand.{Bytes, Loads, refreshAlone, withRefresh, GoodPlan, Demand3}
 use Rattle.definitions.proofs.Options.{none-some, true-false, isSome-true, isSome-false, and-true}
-use Rattle.definitions.proofs.Answers.{load-done, plan-on}
+use Rattle.definitions.proofs.Answers.{load-done, plan-on, open-done}
 use Rattle.definitions.proofs.Words.{treeOf-encode, encode-well-formed}
 use Rattle.definitions.proofs.Streams.{next-takes, next-nothing, load-taken, load-end, read-whole}
 use Rattle.definitions.proofs.Kept.{load-sound, expected-sound}
-use Rattle.definitions.proofs.Opened.{open-sound}
+use Rattle.definitions.proofs.Opened.{comes-sound}
 use Rattle.definitions.proofs.Simple.{states-bound}
 use Rattle.rows.proofs.Open.{open-true}
 use Rattle.rows.proofs.Loaded.{commands-true}
@@ -43,15 +43,12 @@ pub record Carried (t : Tree) (book sheet : List ℕ) : Type 0 where
 
 -- ---- an opening
 
-pub opened : (o : Opening) {lent lent-sheet book sheet : List ℕ} → OpenSays (openTree o) lent lent-sheet 0 book sheet
-    → Carried (openTree o) book sheet
-opened o (inl refused) = absurd (omega (arith, refused .1 .0))
-opened o (inr (right, done)) =
-    record {
-      written = done .1;
-      sound = open-sound o;
-      filled = rw (done .2) (true-words (open-sound o) (open-true (open-sound o)));
-    }
+pub opened : (o : Opening) (t : Tree) → ComesOf o t → (lent lent-sheet : List ℕ) {book sheet : List ℕ} → OpenSays o lent lent-sheet 0 book sheet
+    → Carried t book sheet
+opened o t comes lent lent-sheet opening =
+    let sound = comes-sound o t comes in
+    let (written, filled) = open-done o t lent lent-sheet comes opening in
+    record { written = written; sound = sound; filled = rw filled (true-words sound (open-true sound)) }
 
 -- ---- a Load
 
@@ -118,10 +115,10 @@ loads-refreshed (stream ∷ streams) kept bytes (Loads.then says rest) =
     loads-refreshed streams (loaded kept stream (bytes .0) says) (bytes .1) rest
 
 -- from a holding just opened
-pub prepared : (o : Opening) (streams : List (List ℕ)) → All Bytes streams → {lent lent-sheet opened-book opened-sheet book sheet : List ℕ}
-    → OpenSays (openTree o) lent lent-sheet 0 opened-book opened-sheet
-    → Loads opened-book opened-sheet (withRefresh streams) book sheet → PlanReady (expected (openTree o) (withRefresh streams)) book sheet
-prepared o streams bytes opening calls = loads-refreshed streams (opened o opening) bytes calls
+pub prepared : (o : Opening) (streams : List (List ℕ)) → All Bytes streams → (lent lent-sheet : List ℕ) {opened-book opened-sheet book sheet : List ℕ}
+    → OpenSays o lent lent-sheet 0 opened-book opened-sheet → Loads opened-book opened-sheet (withRefresh streams) book sheet
+    → (t : Tree) → ComesOf o t → PlanReady (expected t (withRefresh streams)) book sheet
+prepared o streams bytes lent lent-sheet opening calls t comes = loads-refreshed streams (opened o t comes lent lent-sheet opening) bytes calls
 
 -- ---- the Plan
 
@@ -189,5 +186,6 @@ answered sound ready a b room says =
 -- ---- demand 3
 
 pub demand-3 : Demand3
-demand-3 o streams bytes lent lent-sheet opened-book opened-sheet book sheet opening calls a b at-a at-b buffer room answer buffer′ says =
-    answered (expected-sound (open-sound o) (withRefresh streams) (refreshed-bytes streams bytes)) (prepared o streams bytes opening calls) a b room says .demanded at-a at-b
+demand-3 o t comes streams bytes lent lent-sheet opened-book opened-sheet book sheet opening calls a b at-a at-b buffer room answer buffer′ says =
+    answered (expected-sound (comes-sound o t comes) (withRefresh streams) (refreshed-bytes streams bytes))
+    (prepared o streams bytes lent lent-sheet opening calls t comes) a b room says .demanded at-a at-b

@@ -2,21 +2,19 @@
 ghost use mathlib.Core.Path.{_≡_};
 ghost use mathlib.Core.List.{[], _∷_};
 ghost use lib.ListN.{length};
-ghost use Rattle.definitions.specs.Limits.{bookLength, sheetLength};
-ghost use Rattle.definitions.specs.Load.{expected};
-ghost use Rattle.definitions.specs.Open.{openTree};
 ghost use Rattle.definitions.specs.Calls.{OpenSays};
-ghost use Rattle.definitions.specs.Demand.{Loads, refreshAlone, withRefresh};
+ghost use Rattle.definitions.specs.Demand.{Loads, refreshAlone};
 ghost use Rattle.book.specs.Decides.{Decides};
 ghost use Rattle.wholerun.specs.Ends.{Rising, streamsOf};
 ghost use Rattle.wholerun.specs.Meaning.{openingOf, runOf};
-ghost use Rattle.wholerun.specs.WholeRun.{PlanReady, RunSays};
+ghost use Rattle.wholerun.specs.WholeRun.{PreparedSays, RunSays};
 use planning::PlanAnswer;
 
-// The two ways to open a holding.
+// The ways to open a holding; the rows of a table are lent beside it.
 pub enum Opening {
     Fresh,
     Ladder,
+    Table,
 }
 
 // The whole run's answer: that it ran, with Plan's answer; or a refusal's number.
@@ -46,12 +44,13 @@ fn well_ended(ends: &[usize], total: usize) -> bool
 }
 
 // Opens a holding.
-fn open(opening: Opening, book: &mut [u32], sheet: &mut [u32]) -> u32
-    ensures { λ r. ⌜ OpenSays (openTree (openingOf opening)) (now (book .entry)) (now (sheet .entry)) r (now (book .exit)) (now (sheet .exit)) ⌝ }
+fn open(opening: Opening, rows: &[u32], book: &mut [u32], sheet: &mut [u32]) -> u32
+    ensures { λ r. ⌜ OpenSays (openingOf opening (now (rows .entry))) (now (book .entry)) (now (sheet .entry)) r (now (book .exit)) (now (sheet .exit)) ⌝ }
 {
     match opening {
         Opening::Fresh => opening::open_fresh(book, sheet),
         Opening::Ladder => opening::open_ladder(book, sheet),
+        Opening::Table => ladders::open_table(rows, book, sheet),
     }
 }
 
@@ -77,21 +76,34 @@ fn refresh(book: &mut [u32], sheet: &mut [u32])
     loading::load(book, sheet, &[0x18]);
 }
 
-// Opens a holding, loads it stream by stream and refreshes it.
-fn prepare(opening: Opening, book: &mut [u32], sheet: &mut [u32], bytes: &[u8], ends: &[usize])
-    requires { ⌜ (length (now book) ≡ bookLength) × (length (now sheet) ≡ sheetLength) × Rising 0 (now ends) (length (now bytes)) ⌝ }
-    ensures { λ _. ⌜ PlanReady (expected (openTree (openingOf opening)) (withRefresh (streamsOf 0 (now (ends .entry)) (now (bytes .entry))))) (now (book .exit)) (now (sheet .exit)) ⌝ }
+// Opens a holding, loads it stream by stream and refreshes it, and gives 0; else what the opening refuses, with nothing written.
+fn prepare(
+    opening: Opening,
+    rows: &[u32],
+    book: &mut [u32],
+    sheet: &mut [u32],
+    bytes: &[u8],
+    ends: &[usize],
+) -> u32
+    requires { ⌜ Rising 0 (now ends) (length (now bytes)) ⌝ }
+    ensures { λ r. ⌜ PreparedSays (openingOf opening (now (rows .entry))) (streamsOf 0 (now (ends .entry)) (now (bytes .entry)))
+        (now (book .entry)) (now (sheet .entry)) r (now (book .exit)) (now (sheet .exit)) ⌝ }
 {
-    open(opening, book, sheet);
+    let k = open(opening, rows, book, sheet);
+    if k != 0 {
+        return k;
+    }
     load_all(book, sheet, bytes, ends);
     refresh(book, sheet);
+    0
 }
 
 // The whole run: opens a holding, does a Load for each of the streams that the ends cut the bytes into and one for a refresh alone, and asks
-// Plan from a to b, with 255 bytes. It refuses 1 (a wrong length) and 99 (malformed ends) with nothing changed; else it ran, and answers
-// what Plan answers, a refusal of Plan's included.
+// Plan from a to b, with 255 bytes. It refuses 1 (a buffer of another length), 99 (malformed ends) and then what the opening refuses, with nothing
+// changed; else it ran, and answers what Plan answers, a refusal of Plan's included. Only an opening from a table looks at the rows.
 pub fn whole_run(
     opening: Opening,
+    rows: &[u32],
     book: &mut [u32],
     sheet: &mut [u32],
     bytes: &[u8],
@@ -100,21 +112,18 @@ pub fn whole_run(
     b: u32,
     buffer: &mut [u8],
 ) -> RunAnswer
-    ensures { λ r. ⌜ RunSays (openingOf opening) (now (book .entry)) (now (sheet .entry)) (now (bytes .entry)) (now (ends .entry)) a b (now (buffer .entry))
+    ensures { λ r. ⌜ RunSays (openingOf opening (now (rows .entry))) (now (book .entry)) (now (sheet .entry)) (now (bytes .entry)) (now (ends .entry)) a b (now (buffer .entry))
         (runOf r) (now (book .exit)) (now (sheet .exit)) (now (buffer .exit)) ⌝ }
 {
-    if book.len() != book::BOOK {
-        return RunAnswer::Refused(1);
-    }
-    if sheet.len() != sheet::SHEET {
-        return RunAnswer::Refused(1);
-    }
     if buffer.len() != BUFFER {
         return RunAnswer::Refused(1);
     }
     if !well_ended(ends, bytes.len()) {
         return RunAnswer::Refused(99);
     }
-    prepare(opening, book, sheet, bytes, ends);
+    let k = prepare(opening, rows, book, sheet, bytes, ends);
+    if k != 0 {
+        return RunAnswer::Refused(k);
+    }
     RunAnswer::Ran(planning::plan(book, sheet, a, b, buffer))
 }

@@ -1,5 +1,5 @@
--- The stream, piece by piece, as the loops store it: pieces one after the other, the levels of the nodes in use, and what is
--- written of one node, from the words of a book. Assumes nothing.
+-- The stream, piece by piece, as the loops store it: the levels of the nodes in use, and what is written of one node, from the words of a book.
+-- Assumes nothing.
 use mathlib.Core.Path.{_≡_, refl, sym, _∙_, ap, subst}
 use mathlib.Core.Logic.{⊎-elim}
 use mathlib.Core.Bool.{Bool, true, false, cond, not, _&&_}
@@ -22,7 +22,7 @@ use Rattle.definitions.specs.Write.{pair, writtenBegin, writtenAdd, writtenRefi
 use Rattle.definitions.proofs.Options.{equal-or-not}
 use Rattle.definitions.proofs.Words.{start-range}
 use Rattle.storing.specs.Stored.{Stored}
-use Rattle.storing.proofs.Laws.{stored-none, stored-then}
+use Rattle.storing.proofs.Pieces.{joined-short}
 use Rattle.writing.specs.Meaning.{Levels, writtenLevel, writtenArrows}
 
 -- ---- what may be absent, as a list
@@ -41,22 +41,6 @@ cond-short w false xs ys h k = k
 option-empty : {A B : Type 0} (f : A → List B) (o : Option A) → ((a : A) → f a ≡ []) → option [] f o ≡ []
 option-empty f none h = refl
 option-empty f (some a) h = h a
-
--- ---- pieces one after the other
-
--- one piece more, at the end
-joined-suc : (k : ℕ) (f : ℕ → List ℕ) → joined (suc k) f ≡ joined k f ++ f k
-unfolding joined
-joined-suc zero f = append-nil (f 0)
-joined-suc (suc k) f =
-    ap (λ (l : List ℕ). f 0 ++ l) (joined-suc k (λ i. f (suc i))) ∙ sym (append-assoc (f 0) (joined k (λ i. f (suc i))) (f (suc k)))
-
--- pieces of at most w bytes
-pub joined-short : (w k : ℕ) (f : ℕ → List ℕ) → ((i : ℕ) → length (f i) ≤ w) → length (joined k f) ≤ k * w
-unfolding joined
-joined-short w zero f h = omega arith
-joined-short w (suc k) f h =
-    rw length-append (omega (arith, h 0, joined-short w k (λ i. f (suc i)) (λ i. h (suc i)), suc-mul k w))
 
 -- ---- the levels of the nodes in use
 
@@ -213,35 +197,6 @@ arrows-short t n = omega (arith, joined-short 8 commands (writtenArrow t n) (arr
 -- one level, as the loop counts them
 pub level-pieces : (t : Tree) (l : ℕ) → joined nodes (writtenAdd t (l + 1)) ++ joined nodes (writtenRefine t (l + 1)) ≡ writtenLevel t l
 level-pieces t l = rw add-one
-
--- ---- the loops over pieces
-
--- The loops' invariant: of k pieces the first i are stored.
-pub record Pieces (f : ℕ → List ℕ) (k : ℕ) (out : List ℕ) (at : ℕ) (mid : List ℕ) (p i : ℕ) : Type 0 where
-  pub passed : i ≤ k
-  pub stored : Stored out at (joined i f) p mid
-
--- no piece yet
-pub pieces-none : (f : ℕ → List ℕ) (k : ℕ) (out : List ℕ) (at : ℕ) → Pieces f k out at out at 0
-unfolding joined
-pieces-none f k out at = record { passed = omega arith; stored = stored-none out at refl }
-
-module _ {f : ℕ → List ℕ} {k : ℕ} {out : List ℕ} {at : ℕ} {mid : List ℕ} {p i : ℕ} (h : Pieces f k out at mid p i) where
-  -- the last piece is stored
-  pub pieces-all : k ≤ i → Stored out at (joined k f) p mid
-  pieces-all all =
-      let same : i ≡ k = omega arith in
-      rw same at (h .stored)
-
-  module _ (more : i < k) where
-    -- one piece more
-    pub pieces-more : {q : ℕ} {out′ : List ℕ} → Stored mid p (f i) q out′ → Pieces f k out at out′ q (i + 1)
-    pieces-more next = record { passed = omega arith; stored = rw (add-one, joined-suc i f) (stored-then (h .stored) next) }
-
-    -- it has room where there is room for k pieces of w bytes, and none has more
-    pub pieces-room : (w : ℕ) → ((j : ℕ) → length (f j) ≤ w) → (room : ℕ) → at + k * w < room → p + w < room
-    pieces-room w short room fits =
-        omega (arith, h .stored .place, joined-short w i f short, suc-mul i w, mul-le-mul-right {m = suc i} {n = k} w more)
 
 -- ---- the words of machines in use
 

@@ -49,6 +49,7 @@ pub fn each_call(holding: &Holding, view: &View) {
     holding.compare_write(view);
     holding.compare_choice(view, 0, 2, &[0, 2, 1], &[2]);
     holding.clone().load(&[himm::REFRESH]);
+    holding.clone().open_table(&[0, 65535, 1]);
     Walkers::at(1, 1, &[0, 10]).both(&holding.book, &view.book, 0, 2);
 }
 

@@ -2,6 +2,7 @@
 #![allow(dead_code)]
 
 pub mod damage;
+pub mod season;
 pub mod walkers;
 pub mod words;
 
@@ -21,7 +22,7 @@ const UNTOUCHED: u32 = 0xdead_beef;
 pub const UNTOUCHED_STEP: [u32; 3] = [UNTOUCHED, UNTOUCHED + 1, UNTOUCHED + 2];
 /// What a buffer holds before a call.
 const FILLER: u8 = 0xa5;
-/// How many bytes stand behind an output's end, which no call may touch.
+/// How many bytes or words stand behind an output's end, which no call may touch.
 const BEHIND: usize = 16;
 
 /// The mast book of document 01, as the hexadecimal text of its stream.
@@ -134,6 +135,13 @@ impl Holding {
         Holding { book: vec![UNTOUCHED; himm::BOOK_WORDS], sheet: vec![UNTOUCHED; himm::SHEET_WORDS] }
     }
 
+    /// What a good table opens, every machine stale.
+    pub fn of_table(rows: &[u32]) -> Holding {
+        let mut all = Holding::untouched();
+        assert_eq!(all.open_table(rows), 0, "{rows:?}");
+        all
+    }
+
     /// A fresh holding with commands and then a refresh loaded into it.
     pub fn loaded(stream: &[u8]) -> Holding {
         let mut all = Holding::fresh();
@@ -179,19 +187,30 @@ impl Holding {
     /// Merges two books over this holding and compares the answer and every word with the model's; gives the refusal or 0.
     pub fn merge(&mut self, first: &[u32], second: &[u32]) -> u32 {
         let before = self.clone();
-        let number = himm::merge(first, second, &mut self.book, &mut self.sheet).err().map_or(0, |r| r.number());
-        match calls::merge(first, second, before.book.len(), before.sheet.len()) {
-            Err(refusal) => {
-                assert_eq!(number, refusal);
-                assert!(*self == before, "a refused merge wrote");
-            }
+        let answer = himm::merge(first, second, &mut self.book, &mut self.sheet);
+        self.compare_written(answer, &before, calls::merge(first, second, before.book.len(), before.sheet.len()))
+    }
+
+    /// Opens a table over this holding and compares likewise; gives the refusal or 0.
+    pub fn open_table(&mut self, rows: &[u32]) -> u32 {
+        let (before, lent) = (self.clone(), rows.to_vec());
+        let answer = himm::open_table(&lent, &mut self.book, &mut self.sheet);
+        assert!(lent == rows, "another table than was lent");
+        self.compare_written(answer, &before, calls::open_table(rows, before.book.len(), before.sheet.len()))
+    }
+
+    /// The answer of a call that writes a book and a sheet whole is the model's, and so is every word of both; where it is refused, nothing
+    /// is written. Gives the refusal or 0.
+    fn compare_written(&self, answer: Result<(), Refusal>, before: &Holding, expected: Result<(Vec<u32>, Vec<u32>), u32>) -> u32 {
+        assert_eq!(answer.map_err(Refusal::number), expected.as_ref().map(|_| ()).map_err(|&k| k));
+        match expected {
+            Err(_) => assert!(self == before, "a refused call wrote"),
             Ok((book, sheet)) => {
-                assert_eq!(number, 0);
                 assert!(self.book == book, "another book");
                 assert!(self.sheet == sheet, "another sheet");
             }
         }
-        number
+        answer.err().map_or(0, Refusal::number)
     }
 
     /// The book is the station's; marks are as expected, kept rows keep their words, and the rest is true.
@@ -300,7 +319,7 @@ impl Holding {
         for room in [himm::STREAM_BYTES, long, long.saturating_sub(1), 0] {
             let expected = view.book.as_ref().map_err(|&k| k).and_then(|t| calls::write(t, room));
             let write = |out, length| unsafe { raw::himm_write(self.book.as_ptr(), self.book.len(), out, room, length) };
-            compare_output(&"write", room, &expected, write);
+            compare_output(&"write", room, FILLER, &expected, write);
         }
     }
 
@@ -335,23 +354,38 @@ impl View {
     }
 }
 
-/// A call that puts bytes at the front of an output of so many bytes: its answer, the length that it stores and every byte are as
-/// expected, those that it leaves and those behind the output's end among them.
-fn compare_output(what: &dyn Debug, room: usize, expected: &Result<Vec<u8>, u32>, call: impl FnOnce(*mut u8, *mut u32) -> u32) {
-    let (mut out, mut length) = (vec![FILLER; room + BEHIND], UNTOUCHED);
+/// A call that puts bytes or words at the front of an output of so many: its answer, the length that it stores and all of the output are as
+/// expected, the filler that it leaves and that behind the output's end among them.
+fn compare_output<T: Copy + PartialEq>(
+    what: &dyn Debug,
+    room: usize,
+    filler: T,
+    expected: &Result<Vec<T>, u32>,
+    call: impl FnOnce(*mut T, *mut u32) -> u32,
+) {
+    let (mut out, mut length) = (vec![filler; room + BEHIND], UNTOUCHED);
     let number = call(out.as_mut_ptr(), &mut length);
-    let (refusal, long) = expected.as_ref().map_or_else(|&k| (k, UNTOUCHED), |bytes| (0, bytes.len() as u32));
-    assert_eq!((number, length), (refusal, long), "{what:x?} into {room} bytes");
-    let mut bytes = expected.clone().unwrap_or_default();
-    bytes.resize(room + BEHIND, FILLER);
-    assert!(out == bytes, "{what:x?} into {room} bytes: other bytes");
+    let (refusal, long) = expected.as_ref().map_or_else(|&k| (k, UNTOUCHED), |front| (0, front.len() as u32));
+    assert_eq!((number, length), (refusal, long), "{what:x?} into room for {room}");
+    let mut whole = expected.clone().unwrap_or_default();
+    whole.resize(room + BEHIND, filler);
+    assert!(out == whole, "{what:x?} into room for {room}: another output");
+}
+
+/// The ladder's rows for a depth by the call for C and by the safe one; gives what the model gives.
+pub fn compare_ladder(depth: u32, room: usize) -> Result<Vec<u32>, u32> {
+    let (expected, mut out) = (calls::ladder(depth, room), vec![UNTOUCHED; room]);
+    compare_output(&("ladder", depth), room, UNTOUCHED, &expected, |out, length| unsafe { raw::himm_ladder(depth, out, room, length) });
+    let safe = himm::ladder(depth, &mut out);
+    assert_eq!(safe.map_err(|refusal| refusal.number()), expected.as_deref().map_err(|&k| k), "ladder {depth} into room for {room}");
+    expected
 }
 
 /// Import by the call for C, and by the safe one where the kind of the reading is known; gives what the model gives.
 pub fn compare_import(lent: &Import, room: usize) -> Result<Vec<u8>, u32> {
     let expected = calls::import(lent, room);
     let (seconds, dead_time) = (f32::from_bits(lent.seconds), f32::from_bits(lent.dead_time));
-    compare_output(lent, room, &expected, |out, length| unsafe {
+    compare_output(lent, room, FILLER, &expected, |out, length| unsafe {
         raw::himm_import(lent.node, lent.command, lent.target, lent.kind, seconds, dead_time, out, room, length)
     });
     let reading = lent.reading().map(|reading| match reading {

@@ -7,7 +7,7 @@ use Prim.Native.Nat.{ℕ, _≤_}
 use native.Mathlib.Omega.{arith}
 use borrow.Author.Needs.{needs}
 use Rattle.definitions.specs.Basics.{isAt}
-use Rattle.definitions.specs.Open.{lastUnder, rowOwner}
+use Rattle.opening.specs.Rows.{lastUnder, rowOwner}
 use Rattle.opening.proofs.lower.Statement.{statement}
 use Rattle.opening.proofs.lower.Tie as tie
 

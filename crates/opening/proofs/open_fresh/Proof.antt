@@ -1,18 +1,20 @@
 -- `opening::open_fresh` meets its contract: its one row says the fresh tree. Assumes nothing.
-use mathlib.Core.Path.{subst}
+use mathlib.Core.Path.{refl, subst}
 use denote.Ref.{now}
 use Rattle.definitions.specs.Tree.{Tree}
-use Rattle.definitions.specs.Calls.{OpenSays}
+use Rattle.definitions.specs.Open.{freshTree, fresh, ComesOf}
+use Rattle.opening.specs.Writes.{OpenedAs}
 use Rattle.opening.proofs.Fresh.{fresh-rows}
+use Rattle.opening.proofs.Says.{opened-as}
 use borrow.Author.Needs.{needs}
 use Rattle.opening.proofs.open_fresh.Statement.{statement}
 use Rattle.opening.proofs.open_fresh.Tie as tie
 
-slice-aggregate-open-table : tie.Need-slice-aggregate-open-table
-slice-aggregate-open-table c = search needs
+slice-aggregate-open-checked : tie.Need-slice-aggregate-open-checked
+slice-aggregate-open-checked c = search needs
 
-open-table-requires : tie.Need-open-table-requires
-open-table-requires c κs = search needs
+open-checked-requires : tie.Need-open-checked-requires
+open-checked-requires c κs = search needs
 
 same-length : tie.Need-same-length
 same-length c = search needs
@@ -22,12 +24,12 @@ same-length-2 c = search needs
 
 returns : tie.Need-returns
 returns c =
-    let done = c .before .before .before .before .open-table in
+    let done = c .before .before .before .before .open-checked in
     let a = c .before .before .before .before .before .before .before .before .before .before .args in
-    subst (λ (t : Tree). OpenSays t (now (a .book)) (now (a .sheet)) (done .result) (done .last .0) (done .last .1 .0))
-    fresh-rows (done .ensures)
+    opened-as freshTree (ComesOf fresh) refl (now (a .book)) (now (a .sheet))
+    (subst (λ (t : Tree). OpenedAs t (now (a .book)) (now (a .sheet)) (done .result) (done .last .0) (done .last .1 .0)) fresh-rows (done .ensures))
 
 pub open-fresh-spec : {M : Type 1} → statement M
 open-fresh-spec =
     tie.close
-    (tie.spec slice-aggregate-open-table open-table-requires same-length same-length-2 returns)
+    (tie.spec slice-aggregate-open-checked open-checked-requires same-length same-length-2 returns)

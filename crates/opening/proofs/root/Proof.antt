@@ -8,7 +8,7 @@ use denote.Ref.{now}
 use borrow.Author.Needs.{needs}
 use Rattle.definitions.specs.Limits.{machines}
 use Rattle.definitions.specs.Book.{word, treeOf}
-use Rattle.definitions.specs.Open.{lastUnder, free, rootOf}
+use Rattle.opening.specs.Rows.{lastUnder, free, rootOf}
 use Rattle.opening.proofs.Last.{last-pass, last-skip}
 use Rattle.opening.proofs.root.Statement.{statement}
 use Rattle.opening.proofs.root.Tie as tie

@@ -5,7 +5,8 @@ use native.Mathlib.Omega.{arith}
 use denote.Ref.{now}
 use Rattle.definitions.specs.Limits.{absent}
 use Rattle.book.specs.Fields.{Holds}
-use Rattle.definitions.specs.Open.{rowCount, grown}
+use Rattle.definitions.specs.Open.{rowCount}
+use Rattle.opening.specs.Rows.{grown}
 use Rattle.opening.proofs.set_rows.Statement.{statement}
 use Rattle.opening.proofs.set_rows.Tie as tie
 

@@ -3,12 +3,18 @@ use Prim.Native.Nat.{_-_}
 use borrow.Author.Needs.{needs}
 use Rattle.random_plans.proofs.run_book.Statement.{statement}
 use Rattle.random_plans.proofs.run_book.Tie as tie
+use Rattle.random_plans.proofs.chance.once_in.Reads as once-in-reads
+use Rattle.random_plans.proofs.count_book.Reads as count-book-reads
+use Rattle.random_plans.proofs.open.Reads as open-reads
+use Rattle.random_plans.proofs.open_table.Reads as open-table-reads
+use Rattle.random_plans.proofs.run_stream.Reads as run-stream-reads
+use Rattle.random_plans.proofs.shapes.of.Reads as of-reads
 
 abbrev Inv-loop : tie.InvT-loop
-Inv-loop book₀ sheet₀ s₀ seed₀ shape tally₀ ladder streams i₀ book sheet s seed tally i = Unit {0}
+Inv-loop book₀ sheet₀ s₀ seed₀ shape tally₀ opening streams i₀ book sheet s seed tally i = Unit {0}
 
 abbrev μ-loop : tie.MeasureT-loop
-μ-loop book₀ sheet₀ s₀ seed₀ shape tally₀ ladder streams i₀ book sheet s seed tally i = streams - i
+μ-loop book₀ sheet₀ s₀ seed₀ shape tally₀ opening streams i₀ book sheet s seed tally i = streams - i
 
 of-requires : tie.Need-of-requires Inv-loop μ-loop
 of-requires c κs = search needs
@@ -18,6 +24,9 @@ once-in-requires c κs = search needs
 
 open-requires : tie.Need-open-requires Inv-loop μ-loop
 open-requires c κs = search needs
+
+open-table-requires : tie.Need-open-table-requires Inv-loop μ-loop
+open-table-requires c κs = search needs
 
 run-stream-requires : tie.Need-run-stream-requires Inv-loop μ-loop
 run-stream-requires c κs = search needs
@@ -55,6 +64,7 @@ run-book-spec =
     of-requires
     once-in-requires
     open-requires
+    open-table-requires
     run-stream-requires
     of-requires-2
     loop-holds

@@ -6,7 +6,8 @@ use Rattle.definitions.specs.Limits.{nodes}
 use Rattle.definitions.specs.Book.{treeOf}
 use Rattle.definitions.specs.Write.{writtenAdd}
 use Rattle.storing.proofs.Laws.{stored-length}
-use Rattle.writing.proofs.Laws.{add-short, Pieces, pieces-none, pieces-room, pieces-more, pieces-all}
+use Rattle.storing.proofs.Pieces.{Pieces, pieces-none, pieces-room, pieces-more, pieces-all}
+use Rattle.writing.proofs.Laws.{add-short}
 use Rattle.writing.proofs.adds.Statement.{statement}
 use Rattle.writing.proofs.adds.Tie as tie
 

@@ -6,7 +6,8 @@ use Rattle.definitions.specs.Limits.{nodes}
 use Rattle.definitions.specs.Book.{treeOf}
 use Rattle.writing.specs.Meaning.{writtenArrows}
 use Rattle.storing.proofs.Laws.{stored-length}
-use Rattle.writing.proofs.Laws.{arrows-short, Pieces, pieces-none, pieces-room, pieces-more, pieces-all}
+use Rattle.storing.proofs.Pieces.{Pieces, pieces-none, pieces-room, pieces-more, pieces-all}
+use Rattle.writing.proofs.Laws.{arrows-short}
 use Rattle.writing.proofs.all_arrows.Statement.{statement}
 use Rattle.writing.proofs.all_arrows.Tie as tie
 

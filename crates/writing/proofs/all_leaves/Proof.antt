@@ -6,7 +6,8 @@ use Rattle.definitions.specs.Limits.{machines}
 use Rattle.definitions.specs.Book.{treeOf}
 use Rattle.definitions.specs.Write.{writtenLeave}
 use Rattle.storing.proofs.Laws.{stored-length}
-use Rattle.writing.proofs.Laws.{leave-short, Pieces, pieces-none, pieces-room, pieces-more, pieces-all}
+use Rattle.storing.proofs.Pieces.{Pieces, pieces-none, pieces-room, pieces-more, pieces-all}
+use Rattle.writing.proofs.Laws.{leave-short}
 use Rattle.writing.proofs.all_leaves.Statement.{statement}
 use Rattle.writing.proofs.all_leaves.Tie as tie
 

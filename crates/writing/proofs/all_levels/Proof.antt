@@ -7,7 +7,7 @@ use Rattle.definitions.specs.Limits.{levels}
 use Rattle.definitions.specs.Book.{treeOf}
 use Rattle.writing.specs.Meaning.{writtenLevel}
 use Rattle.storing.proofs.Laws.{stored-is, stored-then, stored-length}
-use Rattle.writing.proofs.Laws.{Pieces, pieces-none, pieces-room, pieces-more, pieces-all}
+use Rattle.storing.proofs.Pieces.{Pieces, pieces-none, pieces-room, pieces-more, pieces-all}
 use Rattle.writing.proofs.Laws.{adds-short, level-short, level-pieces}
 use Rattle.writing.proofs.all_levels.Statement.{statement}
 use Rattle.writing.proofs.all_levels.Tie as tie

@@ -1,11 +1,11 @@
--- `opening::open_table` meets its contract: each length is tested before a word is written. Assumes nothing.
+-- `opening::open_checked` meets its contract: each length is tested before a word is written. Assumes nothing.
 use native.Mathlib.Omega.{arith}
 use denote.Ref.{now}
-use Rattle.definitions.specs.Open.{rowTree}
+use Rattle.opening.specs.Rows.{rowTree}
 use Rattle.opening.proofs.Says.{refused, opened}
 use borrow.Author.Needs.{needs}
-use Rattle.opening.proofs.open_table.Statement.{statement}
-use Rattle.opening.proofs.open_table.Tie as tie
+use Rattle.opening.proofs.open_checked.Statement.{statement}
+use Rattle.opening.proofs.open_checked.Tie as tie
 
 returns : tie.Need-returns
 returns c =
@@ -33,6 +33,6 @@ returns-3 c =
     opened (rowTree (now (a .rows))) (now (a .book)) (now (a .sheet)) (done .last .0) (done .last .1 .0) (omega arith) (omega arith)
     (done .ensures .0) (done .ensures .1)
 
-pub open-table-spec : {M : Type 1} → statement M
-open-table-spec =
+pub open-checked-spec : {M : Type 1} → statement M
+open-checked-spec =
     tie.close (tie.spec returns returns-2 open-rows-requires same-length same-length-2 returns-3)
