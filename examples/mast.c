@@ -1,11 +1,11 @@
 /*
 ** Opens a holding, loads the stream whose hexadecimal text is named on the command line, refreshes it, and prints the cheapest plan
-** from state 0 to state 2 and from state 2 to state 11, with each state that the station passes and the node and level that acted. Then
-** it imports a probe's timing of node 1's transition and plans from state 0 to state 2 over it. It holds node 11, plans round it, and
-** releases it. It makes machine 1 dear to leave, plans from state 0 to state 2 past it and from state 11 out of it, and takes the cost
-** back. It lets two walkers go from state 0 with one place inside node 1. It merges the book with itself, and plans from state 0 to state 2
-** again and between the same states of the twin. Finally it opens the ladder of depth 2 from a table of rows, and plans from state 3 to
-** state 8.
+** from state 0 to state 2 and from state 2 to state 11, with each state that the station passes and the node and level that acted. It turns
+** the book by command, prints all transitions for commands 0 and 1 and makes a step in that layout. Then it imports a probe's timing of
+** node 1's transition and plans from state 0 to state 2 over it. It holds node 11, plans round it, and releases it. It makes machine 1 dear
+** to leave, plans from state 0 to state 2 past it and from state 11 out of it, and takes the cost back. It lets two walkers go from state 0
+** with one place inside node 1. It merges the book with itself, and plans from state 0 to state 2 again and between the same states of the
+** twin. Finally it opens the ladder of depth 2 from a table of rows, and plans from state 3 to state 8.
 */
 #include <ctype.h>
 #include <stdio.h>
@@ -66,6 +66,24 @@ static void show_plan(uint32_t from, uint32_t to) {
     printf(" by node %u at level %u)", (unsigned)node, level_of(node));
   }
   printf("\n");
+}
+
+/* Turns the book by command, where the transitions of all nodes for one command stand side by side, prints those for commands 0 and 1, and
+   steps from state 11 by command 1. */
+static void show_by_command(void) {
+  static uint32_t turned[HIMM_BOOK_WORDS];
+  uint32_t next, cost, node;
+  must("by command", himm_by_command(book, HIMM_BOOK_WORDS, turned, HIMM_BOOK_WORDS));
+  for (uint32_t command = 0; command < 2; command++) {
+    const uint32_t *words = turned + HIMM_NODES * command;
+    printf("command %u:", (unsigned)command);
+    for (uint32_t n = 0; n < HIMM_NODES; n++) {
+      if (words[n] != HIMM_BLANK) printf(" %u to %u (cost %u)", (unsigned)n, (unsigned)(words[n] >> 16), (unsigned)(words[n] & 65535));
+    }
+    printf("\n");
+  }
+  must("step by command", himm_step_by_command(turned, HIMM_BOOK_WORDS, 11, 1, &next, &cost, &node));
+  printf("by command from 11 by 1: to %u, cost %u, by node %u\n", (unsigned)next, (unsigned)cost, (unsigned)node);
 }
 
 /* Imports seconds that a transition took, and loads the bytes with a refresh behind them. */
@@ -142,6 +160,7 @@ int main(int argc, char **argv) {
   load(refresh, sizeof refresh);
   show_plan(0, 2);
   show_plan(2, 11);
+  show_by_command();
   import_taken(1, 1, 2, 8.5f, 0.25f);
   show_plan(0, 2);
   set_hold(11, 1);

@@ -20,7 +20,8 @@
 ** machine, from which plans are made). The layout of both is in document 01, "Book and sheet in memory"; document 02 adds words at the end
 ** of the book. From word 4,737 on there is one for each node (W-205): 1 where the node is held, else 0. From word 4,993 on there is one for
 ** each machine (W-207): what leaving it costs, at most HIMM_LARGEST_COST. A book is well formed only if nodes that are not in use and start
-** nodes have 0 there, and so machines that are not in use and the root.
+** nodes have 0 there, and so machines that are not in use and the root. This layout of a book is called by node. There is a second one, by
+** command, with calls of its own: see BY COMMAND, the last part of this header. All other parts speak of books by node.
 **
 ** MEMORY. The caller owns all memory, before, during and after each call. Nothing is allocated, nothing is kept between calls, and there
 ** is no global state: calls on different memory may run on different threads at the same time, and so may calls that only read the
@@ -369,6 +370,63 @@ uint32_t himm_import(uint32_t node, uint32_t command, uint32_t target, uint32_t 
 uint32_t himm_walkers(const uint32_t *book, size_t book_len, uint32_t node, uint32_t limit, const uint32_t *walkers, size_t walkers_len);
 uint32_t himm_walk(const uint32_t *book, size_t book_len, uint32_t node, uint32_t limit, uint32_t *walkers, size_t walkers_len,
                    uint32_t walker, uint32_t command, uint32_t *cost, uint32_t *acted);
+
+/*
+** BY COMMAND. In the second layout of a book the transitions for one command stand side by side, for whoever looks at one command over all
+** nodes. It has the same words in another order, HIMM_BOOK_WORDS too:
+**
+**   words           what they hold                                                                        in a book by node
+**   0 to 4,095      the transition of node n for command c is word 256 c + n: those for command 0 first   word 131 + 18 n + c
+**   4,096 to 4,224  the root, and then holder and start of each machine                                   words 0 to 128
+**   4,225 to 4,736  the machine of node n is word 4,225 + 2 n, the machine below it word 4,226 + 2 n      words 129 + 18 n, 130 + 18 n
+**   4,737 to 5,056  holds and costs of leaving                                                            the same words
+**
+** A sheet has one layout: turning a book leaves its sheet true of it. A book by command is well formed where the same book by node is. No
+** word tells the layout: a book that is handed to a call of the other one is judged as what its words say there, and as a rule refused with
+** HIMM_TORN_BOOK. The openings and the two turns take any words.
+**
+** himm_by_command: write a book by node into another list by command.
+** himm_by_node: write a book by command into another list by node. Turning there and back, either way round, changes no word.
+**
+**   book, book_len  HIMM_BOOK_WORDS words, read only; any words are taken, for nothing is judged but the two lengths
+**   out, out_len    HIMM_BOOK_WORDS words, written whole; what they held does not matter. It must not overlap the book
+**
+** Refuses: HIMM_WRONG_LENGTH (either list).
+*/
+uint32_t himm_by_command(const uint32_t *book, size_t book_len, uint32_t *out, size_t out_len);
+uint32_t himm_by_node(const uint32_t *book, size_t book_len, uint32_t *out, size_t out_len);
+
+/*
+** himm_NAME_by_command: himm_NAME for books by command. Each call that is lent a book stands here once more; himm_ladder and himm_import
+** are lent none. Arguments, sizes and refusals with their order are those of himm_NAME, and so is what a refusal leaves. Every book that is
+** lent is taken by command, all three of himm_merge_by_command too, and every book that is written is left by command. The answer is what
+** himm_NAME gives for the same book by node; where several are right (which of the cheapest lists a plan is, which of the cheapest ways the
+** rows of a refreshed sheet name) it need not be the same one.
+**
+** Such a call turns each book that it is lent into memory of its own, on the stack, and turns back what it writes. It needs 20 kilobytes
+** of stack more than himm_NAME, himm_merge_by_command 60 more; what is said above of every call's stack holds of these too.
+*/
+uint32_t himm_open_fresh_by_command(uint32_t *book, size_t book_len, uint32_t *sheet, size_t sheet_len);
+uint32_t himm_open_ladder_by_command(uint32_t *book, size_t book_len, uint32_t *sheet, size_t sheet_len);
+uint32_t himm_open_table_by_command(const uint32_t *rows, size_t rows_len, uint32_t *book, size_t book_len, uint32_t *sheet,
+                                    size_t sheet_len);
+uint32_t himm_load_by_command(uint32_t *book, size_t book_len, uint32_t *sheet, size_t sheet_len, const uint8_t *stream, size_t stream_len,
+                              uint64_t *bytes_taken, uint64_t *commands_taken);
+uint32_t himm_exit_by_command(const uint32_t *book, size_t book_len, const uint32_t *sheet, size_t sheet_len, uint32_t machine,
+                              uint32_t command, uint32_t *cost);
+uint32_t himm_step_by_command(const uint32_t *book, size_t book_len, uint32_t state, uint32_t command, uint32_t *next, uint32_t *cost,
+                              uint32_t *node);
+uint32_t himm_plan_by_command(const uint32_t *book, size_t book_len, const uint32_t *sheet, size_t sheet_len, uint32_t from, uint32_t to,
+                              uint8_t *plan, size_t plan_len, uint32_t *cost, uint32_t *count);
+uint32_t himm_write_by_command(const uint32_t *book, size_t book_len, uint8_t *out, size_t out_len, uint32_t *length);
+uint32_t himm_choose_by_command(const uint32_t *book, size_t book_len, uint32_t from, uint32_t to, const uint8_t *first, size_t first_len,
+                                const uint8_t *second, size_t second_len, uint32_t *which, uint32_t *used);
+uint32_t himm_merge_by_command(const uint32_t *first, size_t first_len, const uint32_t *second, size_t second_len, uint32_t *book,
+                               size_t book_len, uint32_t *sheet, size_t sheet_len);
+uint32_t himm_walkers_by_command(const uint32_t *book, size_t book_len, uint32_t node, uint32_t limit, const uint32_t *walkers,
+                                 size_t walkers_len);
+uint32_t himm_walk_by_command(const uint32_t *book, size_t book_len, uint32_t node, uint32_t limit, uint32_t *walkers, size_t walkers_len,
+                              uint32_t walker, uint32_t command, uint32_t *cost, uint32_t *acted);
 
 #ifdef __cplusplus
 }

@@ -22,7 +22,7 @@ const BARE: [Row; 5] = [
 /// The rows of each kind of book. Steps are compared by state and cost, since a library before version 2 does not name the node. No node is
 /// held and no machine costs anything to leave, and books are compared up to the holds: a library before version 3 has no words for them,
 /// and one before version 4 none for costs of leaving.
-const ROWS: [Row; 15] = [
+const ROWS: [Row; 19] = [
     ("plan", "himm_plan", |side, i, t| side.plan(i, t).into_iter().collect()),
     ("checks of book and sheet", "himm_exit", |side, i, t| none(side.at(i).check_both(t))),
     ("checks of the book", "himm_step", |side, i, t| none(side.at(i).check_book(t))),
@@ -38,6 +38,10 @@ const ROWS: [Row; 15] = [
     ("write", "himm_write", |side, i, t| vec![side.write(i, t) as u32]),
     ("open 8 walkers", "himm_walkers", |side, i, t| vec![side.open_walkers(i, t)]),
     ("command to one of 8 walkers", "himm_walk", |side, i, t| walked(side.walk(i, t))),
+    ("turn by command", "himm_by_command", |side, i, t| side.turn_by_command(i, t)),
+    ("turn by node", "himm_by_node", |side, i, t| side.turn_by_node(i, t)),
+    ("step by command", "himm_step_by_command", |side, i, t| side.step_by_command(i, t).map_or(vec![], |to| vec![to.state, to.cost])),
+    ("plan by command", "himm_plan_by_command", |side, i, t| side.plan_by_command(i, t).into_iter().collect()),
 ];
 
 /// The rows of two half-full books.

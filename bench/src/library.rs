@@ -32,6 +32,7 @@ type Merge = unsafe extern "C" fn(*const u32, usize, *const u32, usize, *mut u32
 type Importing = unsafe extern "C" fn(u32, u32, u32, u32, f32, f32, *mut u8, usize, *mut u32) -> u32;
 type Walkers = unsafe extern "C" fn(*const u32, usize, u32, u32, *const u32, usize) -> u32;
 type Walk = unsafe extern "C" fn(*const u32, usize, u32, u32, *mut u32, usize, u32, u32, *mut u32, *mut u32) -> u32;
+type Turn = unsafe extern "C" fn(*const u32, usize, *mut u32, usize) -> u32;
 
 /// The calls of a library, `None` where it lacks one, and the lengths of its books and sheets.
 pub struct Library {
@@ -50,6 +51,10 @@ pub struct Library {
     import: Option<Importing>,
     walkers: Option<Walkers>,
     walk: Option<Walk>,
+    by_command: Option<Turn>,
+    by_node: Option<Turn>,
+    step_by_command: Option<Step>,
+    plan_by_command: Option<Plan>,
     pub book_words: usize,
     pub sheet_words: usize,
 }
@@ -119,6 +124,10 @@ impl Library {
             import: opened.call("himm_import"),
             walkers: opened.call("himm_walkers"),
             walk: opened.call("himm_walk"),
+            by_command: opened.call("himm_by_command"),
+            by_node: opened.call("himm_by_node"),
+            step_by_command: opened.call("himm_step_by_command"),
+            plan_by_command: opened.call("himm_plan_by_command"),
             opened,
             book_words,
             sheet_words,
@@ -169,20 +178,34 @@ impl Library {
         answer(number, cost)
     }
 
-    /// The state that a command leads to, its cost and the node. The node's word holds no node's number before the call: a library that
-    /// leaves it so does not name the node.
+    /// The state that a command leads to, its cost and the node.
     pub fn step(&self, book: &[u32], state: u32, command: u32) -> Result<Moved, u32> {
-        let (call, mut next, mut cost, mut node) = (self.step.expect("himm_step"), 0, 0, ABSENT);
-        let number = unsafe { call(book.as_ptr(), book.len(), state, command, &mut next, &mut cost, &mut node) };
-        answer(number, Moved { state: next, cost, node: (node != ABSENT).then_some(node) })
+        step(self.step.expect("himm_step"), book, state, command)
+    }
+
+    /// The same of a book by command.
+    pub fn step_by_command(&self, book: &[u32], state: u32, command: u32) -> Result<Moved, u32> {
+        step(self.step_by_command.expect("himm_step_by_command"), book, state, command)
     }
 
     /// The cost of a plan, whose commands go to the buffer.
-    pub fn plan(&self, book: &[u32], sheet: &[u32], (from, to): (u32, u32), buffer: &mut [u8]) -> Result<u32, u32> {
-        let (call, mut cost, mut count) = (self.plan.expect("himm_plan"), 0, 0);
-        let (b, s) = ((book.as_ptr(), book.len()), (sheet.as_ptr(), sheet.len()));
-        let number = unsafe { call(b.0, b.1, s.0, s.1, from, to, buffer.as_mut_ptr(), buffer.len(), &mut cost, &mut count) };
-        answer(number, cost)
+    pub fn plan(&self, book: &[u32], sheet: &[u32], pair: (u32, u32), buffer: &mut [u8]) -> Result<u32, u32> {
+        plan(self.plan.expect("himm_plan"), book, sheet, pair, buffer)
+    }
+
+    /// The same over a book by command.
+    pub fn plan_by_command(&self, book: &[u32], sheet: &[u32], pair: (u32, u32), buffer: &mut [u8]) -> Result<u32, u32> {
+        plan(self.plan_by_command.expect("himm_plan_by_command"), book, sheet, pair, buffer)
+    }
+
+    /// A book by node turned by command.
+    pub fn by_command(&self, book: &[u32], out: &mut [u32]) -> Result<(), u32> {
+        turn(self.by_command.expect("himm_by_command"), book, out)
+    }
+
+    /// A book by command turned by node.
+    pub fn by_node(&self, book: &[u32], out: &mut [u32]) -> Result<(), u32> {
+        turn(self.by_node.expect("himm_by_node"), book, out)
     }
 
     /// The length of a book's stream, whose bytes go to the output.
@@ -229,6 +252,26 @@ impl Library {
         let number = unsafe { call(b.0, b.1, node, limit, s.0, s.1, walker, command, &mut cost, &mut acted) };
         answer(number, (cost, acted))
     }
+}
+
+/// A step by one of the two calls. The node's word holds no node's number before the call: a library that leaves it so does not name the
+/// node.
+fn step(call: Step, book: &[u32], state: u32, command: u32) -> Result<Moved, u32> {
+    let (mut next, mut cost, mut node) = (0, 0, ABSENT);
+    let number = unsafe { call(book.as_ptr(), book.len(), state, command, &mut next, &mut cost, &mut node) };
+    answer(number, Moved { state: next, cost, node: (node != ABSENT).then_some(node) })
+}
+
+/// A plan by one of the two calls.
+fn plan(call: Plan, book: &[u32], sheet: &[u32], (from, to): (u32, u32), buffer: &mut [u8]) -> Result<u32, u32> {
+    let ((b, s), mut cost, mut count) = (((book.as_ptr(), book.len()), (sheet.as_ptr(), sheet.len())), 0, 0);
+    let number = unsafe { call(b.0, b.1, s.0, s.1, from, to, buffer.as_mut_ptr(), buffer.len(), &mut cost, &mut count) };
+    answer(number, cost)
+}
+
+/// A turn by one of the two calls.
+fn turn(call: Turn, book: &[u32], out: &mut [u32]) -> Result<(), u32> {
+    answer(unsafe { call(book.as_ptr(), book.len(), out.as_mut_ptr(), out.len()) }, ())
 }
 
 /// What a call gave, or the number of its refusal.

@@ -7,7 +7,10 @@ use crate::timing::{medians, print_row, rounds, timed, Times};
 use himm_model::flat::Flat;
 use himm_model::import::Import;
 use himm_model::stream::Station;
-use himm_model::{book, calls, choose, merge, table, write, LARGEST_DEPTH};
+use himm_model::{book, calls, choose, layout, merge, table, write, LARGEST_DEPTH};
+
+/// How many other books are judged between two calls on the same one.
+const OTHERS: usize = 8;
 
 /// How many answers were compared, and how many of them differed.
 #[derive(Default)]
@@ -53,6 +56,7 @@ pub fn all(name: &str, side: &Side, agreement: &mut Agreement) {
     writes(side, agreement);
     choices(side, agreement);
     walks(side, agreement);
+    layouts(side, agreement);
 }
 
 /// The rows that are also measured with one book again and again.
@@ -168,6 +172,45 @@ fn walks(side: &Side, agreement: &mut Agreement) {
         (to.map(|to| Moved { state: to.state as u32, cost: to.cost, node: Some(to.node as u32) }), states)
     };
     rounds(ROUNDS, command, walked, |a, b| agreement.of(a, b)).print("command to one of 8 walkers", "the plain model's command");
+}
+
+/// Both turns against a plan and against the model's; a look at one command by command against the same by node.
+fn layouts(side: &Side, agreement: &mut Agreement) {
+    let (there, back) = (|i: usize, t: &mut _| side.turn_by_command(i, t), |i: usize, t: &mut _| side.turn_by_node(i, t));
+    rounds(ROUNDS, there, |i, t| side.plan(i, t), |_, _| ()).print("turn by command", "plan (ours)");
+    rounds(ROUNDS, back, |i, t| side.plan(i, t), |_, _| ()).print("turn by node", "plan (ours)");
+    let model = |i: usize, times: &mut _| timed(times, || layout::by_command(&side.at(i).book));
+    rounds(ROUNDS, there, model, |a, b| agreement.of(a, b)).print("turn by command", "the plain model's turn");
+    let model = |i: usize, times: &mut _| timed(times, || layout::by_node(side.by_command(i)));
+    rounds(ROUNDS, back, model, |a, b| agreement.of(a, b)).print("turn by node", "the plain model's turn");
+    calls_by_command(side, agreement);
+    let look = |i: usize, times: &mut _| side.scan_by_command(i, times);
+    let name = "one command in 32 books by command";
+    rounds(ROUNDS, look, |i, t| side.scan_by_node(i, t), |a, b| agreement.of(a, b)).print(name, "the same by node");
+}
+
+/// A step and a plan by command against the same by node. Both sides judge the same book, and the second would find it learnt by the
+/// processor; so before each of them some other books are judged, outside the clock.
+fn calls_by_command(side: &Side, agreement: &mut Agreement) {
+    let others = |i: usize| (1..=OTHERS).for_each(|k| side.at(i + k).check_both(&mut Times::default()));
+    let step = |i: usize, times: &mut _| {
+        others(i);
+        side.step_by_command(i, times)
+    };
+    let step_by_node = |i: usize, times: &mut _| {
+        others(i);
+        side.step(i, times)
+    };
+    rounds(ROUNDS, step, step_by_node, |a, b| agreement.of(a, b)).print("step by command", "step (ours)");
+    let plan = |i: usize, times: &mut _| {
+        others(i);
+        side.plan_by_command(i, times)
+    };
+    let plan_by_node = |i: usize, times: &mut _| {
+        others(i);
+        side.plan(i, times)
+    };
+    rounds(ROUNDS, plan, plan_by_node, |a, b| agreement.of(a, b)).print("plan by command", "plan (ours)");
 }
 
 /// A merge of two books against writing and loading them both. The merged tree is the model's, and the loaded ones are those written.

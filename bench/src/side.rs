@@ -7,7 +7,9 @@ use crate::timing::{timed, Times};
 use himm_model::flat::Flat;
 use himm_model::import::Import;
 use himm_model::random::{self, Growth, Random, Shape};
-use himm_model::{book, table, walk, COMMANDS, LARGEST_DEPTH, LIST_COMMANDS, MACHINES, NODES, STREAM_BYTES, TABLE_WORDS, WALKERS};
+use himm_model::{
+    book, layout, table, walk, BLANK, COMMANDS, LARGEST_DEPTH, LIST_COMMANDS, MACHINES, NODES, STREAM_BYTES, TABLE_WORDS, WALKERS,
+};
 
 /// How often each piece of work is timed.
 pub const ROUNDS: usize = 400;
@@ -22,13 +24,18 @@ const LIST: usize = 64;
 pub const TIMINGS: usize = 1000;
 pub const IMPORT_BYTES: usize = 8;
 
+/// The words of a node's record in a book by node.
+const RECORD: usize = 18;
+
 /// The longest dead time of a probe, in seconds.
 const DEAD_TIME: f32 = 0.25;
 
 /// Books, taken in turn round by round, so that no side meets the same book twice in a row where there is more than one; beside them the
-/// same with every machine stale, and a fresh one. Streams and long lists are by book, the other inputs by round.
+/// same with every machine stale, a fresh one, and the words of each by command. Streams and long lists are by book, the other inputs by
+/// round.
 pub struct Side {
     pub books: Vec<Holding>,
+    by_command: Vec<Vec<u32>>,
     stale: Vec<Holding>,
     fresh: Holding,
     pub streams: Vec<Vec<u8>>,
@@ -91,6 +98,7 @@ impl Side {
         let pairs: Vec<_> = books.iter().map(|holding| holding.pairs(ROUNDS)).collect();
         let edits: Vec<_> = books.iter().map(|holding| holding.edits(ROUNDS, 5)).collect();
         Side {
+            by_command: books.iter().map(|holding| layout::by_command(&book::encode(&holding.tree))).collect(),
             stale: books.iter().map(Holding::stale).collect(),
             fresh: Holding::fresh(books[0].library),
             streams: books.iter().map(Holding::stream).collect(),
@@ -160,6 +168,50 @@ impl Side {
     pub fn step(&self, round: usize, times: &mut Times) -> Option<Moved> {
         let (state, command) = self.places[round];
         timed(times, || self.library().step(&self.at(round).book, state, command)).ok()
+    }
+
+    /// The words of a round's book by command.
+    pub fn by_command(&self, round: usize) -> &[u32] {
+        &self.by_command[round % self.by_command.len()]
+    }
+
+    /// The book turned by command; the other list is filled outside the clock.
+    pub fn turn_by_command(&self, round: usize, times: &mut Times) -> Vec<u32> {
+        let mut out = self.fresh.book.clone();
+        timed(times, || self.library().by_command(&self.at(round).book, &mut out)).expect("right lengths");
+        out
+    }
+
+    /// The book turned by node, likewise.
+    pub fn turn_by_node(&self, round: usize, times: &mut Times) -> Vec<u32> {
+        let mut out = self.fresh.book.clone();
+        timed(times, || self.library().by_node(self.by_command(round), &mut out)).expect("right lengths");
+        out
+    }
+
+    /// The round's step, of the book by command.
+    pub fn step_by_command(&self, round: usize, times: &mut Times) -> Option<Moved> {
+        let (state, command) = self.places[round];
+        timed(times, || self.library().step_by_command(self.by_command(round), state, command)).ok()
+    }
+
+    /// The cost of the round's plan, over the book by command.
+    pub fn plan_by_command(&self, round: usize, times: &mut Times) -> Option<u32> {
+        let (sheet, mut buffer) = (&self.at(round).sheet, [0; PLAN_BYTES]);
+        timed(times, || self.library().plan_by_command(self.by_command(round), sheet, self.pairs[round], &mut buffer)).ok()
+    }
+
+    /// One command looked at over all nodes, in as many books as there are of a kind, by node: how many transitions there are, and the sum
+    /// of their costs.
+    pub fn scan_by_node(&self, round: usize, times: &mut Times) -> (u32, u32) {
+        let first = book::node_at(0) + 2 + self.places[round].1 as usize;
+        timed(times, || sum((0..BOOKS).map(|k| seen(self.at(round + k).book[first..].iter().step_by(RECORD).take(NODES)))))
+    }
+
+    /// The same, the books by command.
+    pub fn scan_by_command(&self, round: usize, times: &mut Times) -> (u32, u32) {
+        let first = NODES * self.places[round].1 as usize;
+        timed(times, || sum((0..BOOKS).map(|k| seen(self.by_command(round + k)[first..].iter().take(NODES)))))
     }
 
     /// The walkers of a round opened; gives 0, since they keep their limit.
@@ -328,6 +380,16 @@ fn long_list(flat: &Flat, moves: &[Vec<(u8, usize)>], (from, to): (u32, u32), ra
 fn place(holding: &Holding, round: usize) -> (u32, u32) {
     let mut random = Random::new(round as u64);
     (random.pick(&holding.tree.states()) as u32, random.below(COMMANDS) as u32)
+}
+
+/// How many transitions some words are, and the sum of their costs.
+fn seen<'a>(words: impl Iterator<Item = &'a u32>) -> (u32, u32) {
+    sum(words.map(|&word| if word == BLANK { (0, 0) } else { (1, word & 0xffff) }))
+}
+
+/// The sums of pairs.
+fn sum(pairs: impl Iterator<Item = (u32, u32)>) -> (u32, u32) {
+    pairs.fold((0, 0), |(a, b), (c, d)| (a + c, b + d))
 }
 
 /// A random list of commands.

@@ -51,6 +51,12 @@ pub fn ladder(depth: u32, room: usize) -> Result<Vec<u32>, u32> {
     Ok(rows)
 }
 
+/// A turn of a list of words into a list of so many: refuses 1.
+pub fn turn(turned: fn(&[u32]) -> Vec<u32>, words: &[u32], out_len: usize) -> Result<Vec<u32>, u32> {
+    ask(1, words.len() == BOOK_WORDS && out_len == BOOK_WORDS)?;
+    Ok(turned(words))
+}
+
 /// A true holding as a station whose rows are kept or stale.
 pub fn station(tree: Tree, sheet: &[u32]) -> Station {
     let rows = (0..MACHINES).map(|m| if is_stale(sheet, m) { Row::Stale } else { Row::Kept }).collect();

@@ -7,6 +7,7 @@ pub mod calls;
 pub mod choose;
 pub mod flat;
 pub mod import;
+pub mod layout;
 pub mod merge;
 pub mod random;
 pub mod sheet;

@@ -4,6 +4,8 @@
 //! Every call is safe on any input: a list of a wrong length, a torn book and a false sheet are refused. A refused call changes nothing
 //! that was lent, but for the commands that [`load`] took before the refused one.
 //!
+//! A book has two layouts. The functions here take books by node; for books by command they are methods of [`Layout::ByCommand`].
+//!
 //! ```
 //! let (mut book, mut sheet) = (vec![0; himm::BOOK_WORDS], vec![0; himm::SHEET_WORDS]);
 //! himm::open_ladder(&mut book, &mut sheet)?;
@@ -14,9 +16,11 @@
 //! # Ok::<(), himm::Refusal>(())
 //! ```
 
+mod layout;
 pub mod raw;
 mod refusal;
 
+pub use layout::{by_command, by_node, Layout};
 pub use refusal::Refusal;
 
 /// The version of `include/himm.h` that these calls are written for.
@@ -124,13 +128,12 @@ pub struct Timing {
 
 /// Makes a book of one machine, the root 0, with its start node 0.
 pub fn open_fresh(book: &mut [u32], sheet: &mut [u32]) -> Result<(), Refusal> {
-    // SAFETY: each pointer is that of a slice, passed with the slice's length; mutable slices overlap nothing. So in every call below.
-    Refusal::check(unsafe { raw::himm_open_fresh(book.as_mut_ptr(), book.len(), sheet.as_mut_ptr(), sheet.len()) })
+    Layout::ByNode.open_fresh(book, sheet)
 }
 
 /// Makes the book of the ladder, 63 machines of three nodes each.
 pub fn open_ladder(book: &mut [u32], sheet: &mut [u32]) -> Result<(), Refusal> {
-    Refusal::check(unsafe { raw::himm_open_ladder(book.as_mut_ptr(), book.len(), sheet.as_mut_ptr(), sheet.len()) })
+    Layout::ByNode.open_ladder(book, sheet)
 }
 
 /// Makes the book of a table of rows, three words each: the machine that a node belongs to, the machine below it or [`ABSENT`], and 1 for
@@ -150,114 +153,52 @@ pub fn open_ladder(book: &mut [u32], sheet: &mut [u32]) -> Result<(), Refusal> {
 /// # Ok::<(), himm::Refusal>(())
 /// ```
 pub fn open_table(rows: &[u32], book: &mut [u32], sheet: &mut [u32]) -> Result<(), Refusal> {
-    let (b, s) = ((book.as_mut_ptr(), book.len()), (sheet.as_mut_ptr(), sheet.len()));
-    Refusal::check(unsafe { raw::himm_open_table(rows.as_ptr(), rows.len(), b.0, b.1, s.0, s.1) })
+    Layout::ByNode.open_table(rows, book, sheet)
 }
 
 /// The rows of the ladder of a depth from 1 to [`LARGEST_DEPTH`], at the front of the lent output, for [`open_table`]: 2 to the depth, less
 /// 1, machines of three nodes each. Those of depth 6 give the words that [`open_ladder`] writes.
 pub fn ladder(depth: u32, out: &mut [u32]) -> Result<&[u32], Refusal> {
     let mut length = 0;
+    // SAFETY: the pointer is that of a mutable slice, passed with the slice's length. So in the import below.
     let number = unsafe { raw::himm_ladder(depth, out.as_mut_ptr(), out.len(), &mut length) };
     Refusal::check(number).map(|()| &out[..length as usize])
 }
 
 /// Does the commands of a stream up to its end or the first that is refused.
 pub fn load(book: &mut [u32], sheet: &mut [u32], stream: &[u8]) -> Loaded {
-    let (mut bytes, mut commands) = (0, 0);
-    let number = unsafe {
-        raw::himm_load(
-            book.as_mut_ptr(),
-            book.len(),
-            sheet.as_mut_ptr(),
-            sheet.len(),
-            stream.as_ptr(),
-            stream.len(),
-            &mut bytes,
-            &mut commands,
-        )
-    };
-    Loaded { bytes, commands, result: Refusal::check(number) }
+    Layout::ByNode.load(book, sheet, stream)
 }
 
 /// The exit cost of a machine for a command.
 pub fn exit(book: &[u32], sheet: &[u32], machine: u32, command: u32) -> Result<u32, Refusal> {
-    let mut cost = 0;
-    let number = unsafe { raw::himm_exit(book.as_ptr(), book.len(), sheet.as_ptr(), sheet.len(), machine, command, &mut cost) };
-    Refusal::check(number).map(|()| cost)
+    Layout::ByNode.exit(book, sheet, machine, command)
 }
 
 /// The state that a command leads to, its cost, and the node whose transition was used.
 pub fn step(book: &[u32], state: u32, command: u32) -> Result<Moved, Refusal> {
-    let (mut next, mut cost, mut node) = (0, 0, 0);
-    let number = unsafe { raw::himm_step(book.as_ptr(), book.len(), state, command, &mut next, &mut cost, &mut node) };
-    Refusal::check(number).map(|()| Moved { state: next, cost, node })
+    Layout::ByNode.step(book, state, command)
 }
 
 /// A cheapest list of commands from one state to another.
 pub fn plan<'a>(book: &[u32], sheet: &[u32], from: u32, to: u32, buffer: &'a mut [u8]) -> Result<Plan<'a>, Refusal> {
-    let (mut cost, mut count) = (0, 0);
-    let number = unsafe {
-        raw::himm_plan(
-            book.as_ptr(),
-            book.len(),
-            sheet.as_ptr(),
-            sheet.len(),
-            from,
-            to,
-            buffer.as_mut_ptr(),
-            buffer.len(),
-            &mut cost,
-            &mut count,
-        )
-    };
-    Refusal::check(number).map(|()| Plan { cost, commands: &buffer[..count as usize] })
+    Layout::ByNode.plan(book, sheet, from, to, buffer)
 }
 
 /// The stream of a book, at the front of the lent output.
 pub fn write<'a>(book: &[u32], out: &'a mut [u8]) -> Result<&'a [u8], Refusal> {
-    let mut length = 0;
-    let number = unsafe { raw::himm_write(book.as_ptr(), book.len(), out.as_mut_ptr(), out.len(), &mut length) };
-    Refusal::check(number).map(|()| &out[..length as usize])
+    Layout::ByNode.write(book, out)
 }
 
 /// The used part of the cheaper of two lists from one state to another.
 pub fn choose<'a>(book: &[u32], from: u32, to: u32, first: &'a [u8], second: &'a [u8]) -> Result<Chosen<'a>, Refusal> {
-    let (mut which, mut used) = (0, 0);
-    let number = unsafe {
-        raw::himm_choose(
-            book.as_ptr(),
-            book.len(),
-            from,
-            to,
-            first.as_ptr(),
-            first.len(),
-            second.as_ptr(),
-            second.len(),
-            &mut which,
-            &mut used,
-        )
-    };
-    let (which, list) = if which == 0 { (Which::First, first) } else { (Which::Second, second) };
-    Refusal::check(number).map(|()| Chosen { which, part: &list[..used as usize] })
+    Layout::ByNode.choose(book, from, to, first, second)
 }
 
 /// Makes one book from two, and its sheet, every machine stale: the first book keeps its numbers, the second's machines and nodes move to
 /// the lowest that are unused in the first, and a new root without transitions holds both. The two books may be one and the same.
 pub fn merge(first: &[u32], second: &[u32], book: &mut [u32], sheet: &mut [u32]) -> Result<(), Refusal> {
-    let number = unsafe {
-        raw::himm_merge(
-            first.as_ptr(),
-            first.len(),
-            second.as_ptr(),
-            second.len(),
-            book.as_mut_ptr(),
-            book.len(),
-            sheet.as_mut_ptr(),
-            sheet.len(),
-        )
-    };
-    Refusal::check(number)
+    Layout::ByNode.merge(first, second, book, sheet)
 }
 
 /// The bytes that record a timing when they are loaded, at the front of the lent output: they set the transition, with the least whole
@@ -286,7 +227,7 @@ pub fn import(node: u32, command: u32, target: u32, timing: Timing, out: &mut [u
 /// Opens up to [`WALKERS`] walkers, each at its state: at most as many as the limit may be inside the node, at it or below it. Nothing is
 /// written.
 pub fn walkers(book: &[u32], node: u32, limit: u32, walkers: &[u32]) -> Result<(), Refusal> {
-    Refusal::check(unsafe { raw::himm_walkers(book.as_ptr(), book.len(), node, limit, walkers.as_ptr(), walkers.len()) })
+    Layout::ByNode.walkers(book, node, limit, walkers)
 }
 
 /// One command for one of these walkers: it goes where [`step`] leads from its state, unless it would come inside the node while as many as
@@ -305,7 +246,5 @@ pub fn walkers(book: &[u32], node: u32, limit: u32, walkers: &[u32]) -> Result<(
 /// # Ok::<(), himm::Refusal>(())
 /// ```
 pub fn walk(book: &[u32], node: u32, limit: u32, walkers: &mut [u32], walker: u32, command: u32) -> Result<Moved, Refusal> {
-    let (states, count, mut cost, mut acted) = (walkers.as_mut_ptr(), walkers.len(), 0, 0);
-    let number = unsafe { raw::himm_walk(book.as_ptr(), book.len(), node, limit, states, count, walker, command, &mut cost, &mut acted) };
-    Refusal::check(number).map(|()| Moved { state: walkers[walker as usize], cost, node: acted })
+    Layout::ByNode.walk(book, node, limit, walkers, walker, command)
 }

@@ -3,6 +3,8 @@ pub mod Lists
 pub mod Words
 pub mod Path
 pub mod Tables
+pub mod Turned
+pub mod Either
 pub mod Runs
 pub mod Reaching
 pub mod Inside

@@ -1,11 +1,11 @@
--- The mast book of document 01: its starred examples, by computing with the definitions; the claims of W-202, W-203 and W-205 to W-207 on it; and
+-- The mast book of document 01: its starred examples, by computing with the definitions; the claims of W-202, W-203, W-205 to W-207 and W-209 on it; and
 -- that an exit may end inside its machine. Assumes nothing.
 use mathlib.Core.Path.{_≡_, refl, _∙_}
 use mathlib.Core.Logic.{inl, inr}
 use mathlib.Core.Bool.{false}
 use mathlib.Core.Option.{Option, none, some}
 use mathlib.Core.List.{List, [], _∷_, _++_}
-use Prim.Native.Nat.{ℕ, zero, suc, _≤_, _<_}
+use Prim.Native.Nat.{ℕ, zero, suc, _+_, _*_, _≤_, _<_}
 use native.Mathlib.Omega.{arith}
 use lib.ListN.{length, getD, set}
 use lib.IntN.{negsuc}
@@ -15,7 +15,7 @@ use Rattle.definitions.specs.Limits.{nodes, commands, mostWalkers}
 use Rattle.definitions.specs.Tree.{Tree, Transition, Sound, UsedNode, states, above, pathF, path, level, within}
 use Rattle.definitions.specs.Step.{enterF, enter, counting, look, climb, stepIn, step, acting, Moves, runBy, passes}
 use Rattle.definitions.specs.Costs.{LeastCost, ExitCost}
-use Rattle.definitions.specs.Book.{under, encode, treeOf, WellFormed}
+use Rattle.definitions.specs.Book.{word, transitionWord, under, encode, treeOf, WellFormed}
 use Rattle.definitions.specs.Sheet.{Rows, encodeRows}
 use Rattle.definitions.specs.Truth.{nodeExit, move}
 use Rattle.definitions.specs.Stream.{hold, operandLength, decode, readNext}
@@ -28,6 +28,7 @@ use Rattle.definitions.specs.Demand.{Bytes}
 use Rattle.definitions.specs.Import.{took, ImportSays, Placed}
 use Rattle.definitions.specs.Write.{writtenBegin, writtenAdd, writtenRefine, writtenArrow, writtenHold, writtenLeave, written}
 use Rattle.definitions.specs.Walk.{inside, comesInside, handedRefusals, walkRefusals, OpenWalkersSay, WalkSays, AtMostInside}
+use Rattle.definitions.specs.ByCommand.{byCommand, byNode}
 use Rattle.definitions.specs.Mast.{mastStream, clearing, mastAfter, mastTree, RefusedWith16, MastExamples}
 use Rattle.definitions.proofs.Options.{none-some, true-false}
 use Rattle.definitions.proofs.Kept.{hold-released, expected-sound}
@@ -36,12 +37,14 @@ use Rattle.definitions.proofs.Tests.{allBelow, allUnder, listed, accoun
 use Rattle.definitions.proofs.Tests.{namedTest, chainTest, leftTest, endedTest, machineTest, reachedTest, nodeTest, rowsTest}
 use Rattle.definitions.proofs.Tests.{all-under, bound-least, bound-plan, bound-none, step-says}
 use Rattle.definitions.proofs.Tests.{tested-exit, tested-sheet, tested-refused}
-use Rattle.definitions.proofs.Words.{treeOf-encode, encode-well-formed}
+use Rattle.definitions.proofs.Words.{encode-length, root-word, node-word, treeOf-encode, encode-well-formed}
 use Rattle.definitions.proofs.Answers.{timed-same, Passed, in-order-all, in-order-after}
 use Rattle.definitions.proofs.Local.{exit-free}
 use Rattle.definitions.proofs.Acting.{step-acts, free-step}
 use Rattle.definitions.proofs.Imports.{import-loads}
 use Rattle.definitions.proofs.Walks.{limit-kept}
+use Rattle.definitions.proofs.Turned.{command-transition, command-front, command-link}
+use Rattle.definitions.proofs.Either.{same-answers}
 
 -- the stream that gives node 1 a transition to itself for command 2
 unfoldable pub looping : List ℕ
@@ -524,3 +527,23 @@ pub refused-charges : (load mastTree (charging 0 9) .number ≡ 6) × (load mast
     × (load mastTree (crowning ++ charging 0 9) .number ≡ 0) × (load mastTree (crowning ++ charging 2 9) .number ≡ 6)
 unfolding computing
 refused-charges = (refl, refl, refl, refl, refl, refl, refl)
+
+-- ---- by command (document 02, W-209)
+
+-- node 1's transition for command 1, to node 2 at cost 3, is word 256 + 1; the root is word 4,096, owner and machine below of node 1 words 4,227
+-- and 4,228
+pub mast-by-command : (getD (byCommand (encode mastTree)) 257 0 ≡ 2 * 65536 + 3) × (getD (byCommand (encode mastTree)) 4096 0 ≡ 0)
+    × (getD (byCommand (encode mastTree)) 4227 0 ≡ 0) × (getD (byCommand (encode mastTree)) 4228 0 ≡ 1)
+unfolding computing transitionWord word
+mast-by-command =
+    let len = encode-length mastTree in (
+      command-transition (encode mastTree) len 1 1 (omega arith) (omega arith) ∙ node-word mastTree 1 3 (omega arith) (omega arith),
+      command-front (encode mastTree) len 0 (omega arith) ∙ root-word mastTree,
+      command-link (encode mastTree) len 1 0 (omega arith) (omega arith) ∙ node-word mastTree 1 0 (omega arith) (omega arith),
+      command-link (encode mastTree) len 1 1 (omega arith) (omega arith) ∙ node-word mastTree 1 1 (omega arith) (omega arith),
+    )
+
+-- Step's answer on the book by command, a case of `same-answers`
+pub mast-step-by-command : (answer : Answer) → StepSays (byNode (byCommand (encode mastTree))) 11 1 answer → gives (2 ∷ 3 ∷ 1 ∷ []) ≡ answer
+mast-step-by-command answer says =
+    same-answers .steps 11 1 (encode mastTree) (gives (2 ∷ 3 ∷ 1 ∷ [])) answer (mast-examples .step-11-by-1) says .1

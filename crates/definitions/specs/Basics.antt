@@ -6,6 +6,10 @@ use mathlib.Core.List.{List, [], _∷_, _++_}
 use Prim.Native.Nat.{ℕ, zero, suc, _+_, _≤_}
 use lib.Dec.{eqb}
 
+-- a value as it is
+abbrev pub asItIs : {A : Type 0} → A → A
+asItIs a = a
+
 infixl 20 _>>=_
 -- what f gives of the value that o holds; nothing where o holds none
 abbrev pub _>>=_ : {A B : Type 0} → Option A → (A → Option B) → Option B

@@ -23,12 +23,13 @@ use Rattle.definitions.specs.Write.{written, WriteSays}
 abbrev pub Bytes : List ℕ → Type 0
 Bytes = All (λ b. b < 256)
 
--- a list of Load calls, each with its stream: each gets the book and sheet that the one before left
-pub data Loads : List ℕ → List ℕ → List (List ℕ) → List ℕ → List ℕ → Type 0 where
-  done : {book sheet : List ℕ} → Loads book sheet [] book sheet
+-- a list of Load calls, each with its stream: each gets the book and sheet that the one before left. `turn` gives a lent book by node: `asItIs`
+-- where it is lent by node, `byNode` where by command (document 02, W-209)
+pub data Loads (turn : List ℕ → List ℕ) : List ℕ → List ℕ → List (List ℕ) → List ℕ → List ℕ → Type 0 where
+  done : {book sheet : List ℕ} → Loads turn book sheet [] book sheet
   then : {book sheet stream mid mid-sheet book′ sheet′ : List ℕ} {streams : List (List ℕ)} {answer : LoadAnswer}
-      → LoadSays book sheet stream answer mid mid-sheet → Loads mid mid-sheet streams book′ sheet′
-      → Loads book sheet (stream ∷ streams) book′ sheet′
+      → LoadSays (turn book) sheet stream answer (turn mid) mid-sheet → Loads turn mid mid-sheet streams book′ sheet′
+      → Loads turn book sheet (stream ∷ streams) book′ sheet′
 
 -- the stream that is a refresh alone
 abbrev pub refreshAlone : List ℕ
@@ -54,18 +55,19 @@ pub record NoWay (t : Tree) (a b : ℕ) (answer : Answer) : Type 0 where
 abbrev pub withRefresh : List (List ℕ) → List (List ℕ)
 withRefresh streams = streams ++ (refreshAlone ∷ [])
 
--- Demand 3, one claim on the whole list of calls and the Plan after it. Of an opening (document 02, W-208: also from a table) and its tree, streams
--- of bytes of which the last is a refresh alone, lists as opened, and lists that Load left for each stream in turn; of any two states of the
--- expected station of all these streams and any 255 bytes: Plan's answer is a good plan or "no way" of that station.
-abbrev pub Demand3 : Type 0
-Demand3 =
+-- Demand 3, one claim on the whole list of calls and the Plan after it, on either layout (document 02, W-209). Of an opening (W-208: also from a
+-- table) and its tree, streams of bytes of which the last is a refresh alone, lists as opened, and lists that Load left for each stream in turn; of
+-- any two states of the expected station of all these streams and any 255 bytes: Plan's answer is a good plan or "no way" of that station. `turn` is
+-- as in Loads.
+abbrev pub Demand3 : (List ℕ → List ℕ) → Type 0
+Demand3 turn =
     (opening : Opening) (t : Tree) → ComesOf opening t → (streams : List (List ℕ)) → All Bytes streams
     → (lent lent-sheet opened opened-sheet book sheet : List ℕ)
-    → OpenSays opening lent lent-sheet 0 opened opened-sheet
-    → Loads opened opened-sheet (withRefresh streams) book sheet
+    → OpenSays opening (turn lent) lent-sheet 0 (turn opened) opened-sheet
+    → Loads turn opened opened-sheet (withRefresh streams) book sheet
     → let station = expected t (withRefresh streams) in
     (a b : ℕ) → isState station a ≡ true → isState station b ≡ true
-    → (buffer : List ℕ) → length buffer ≡ planBuffer → (answer : Answer) (buffer′ : List ℕ) → PlanSays book sheet a b buffer answer buffer′
+    → (buffer : List ℕ) → length buffer ≡ planBuffer → (answer : Answer) (buffer′ : List ℕ) → PlanSays (turn book) sheet a b buffer answer buffer′
     → GoodPlan station a b answer buffer′ ⊎ NoWay station a b answer
 
 -- Demand 2, its last clause: the stream that Write gives for a book, loaded into any holding whose book is well formed and sheet true,

@@ -22,3 +22,4 @@ pub mod Merge
 pub mod Import
 pub mod Walk
 pub mod Ladder
+pub mod ByCommand

@@ -3,11 +3,11 @@ use mathlib.Core.Path.{_≡_}
 use mathlib.Core.Bool.{cond}
 use mathlib.Core.Option.{Option, none, some}
 use mathlib.Core.List.{List, [], _∷_}
-use Prim.Native.Nat.{ℕ}
+use Prim.Native.Nat.{ℕ, zero, suc}
 use lib.Dec.{eqb}
-use lib.ListN.{getD}
+use lib.ListN.{drop}
 use lib.Ieee.{Float}
-use Rattle.definitions.specs.Answer.{Answer, wants, InOrder}
+use Rattle.definitions.specs.Answer.{Answer, gives, refuses, wants, InOrder}
 use Rattle.definitions.specs.Calls.{LoadSays, ExitSays, StepSays, PlanSays}
 use Rattle.definitions.specs.Write.{WriteSays}
 use Rattle.definitions.specs.Ladder.{LadderSays}
@@ -15,38 +15,38 @@ use Rattle.definitions.specs.Import.{Reading, took, waited, ImportSays}
 use Rattle.definitions.specs.Choose.{Choice, first, second, ChoiceSays}
 use Rattle.definitions.specs.Walk.{WalkSays}
 
--- what a word holds after the call that held `old` before it: the i-th value that the answer gives; a refusal gives none
-abbrev pub outOf : Answer → ℕ → ℕ → ℕ
-outOf answer i old = getD (answer .values) i old
+-- what words hold after the call that held `old` before it: the values that an answer gives, in their order; a refusal gives none
+abbrev pub wordsAfter : (values old : List ℕ) → List ℕ
+wordsAfter [] old = old
+wordsAfter (v ∷ vs) [] = []
+wordsAfter (v ∷ vs) (o ∷ old) = v ∷ wordsAfter vs old
 
--- Exit, Step and Plan: the returned number and the words, by the answer that document 01 gives (Step's node: document 02, W-202)
-pub record ExitReturns (book sheet : List ℕ) (m x cost number cost′ : ℕ) : Type 0 where
-  pub answer : Answer
-  pub says : ExitSays book sheet m x answer
+-- an answer is stored: its number is returned, and the words take its values
+pub record Stored (answer : Answer) (old : List ℕ) (number : ℕ) (new : List ℕ) : Type 0 where
   pub returned : number ≡ answer .number
-  pub cost-word : cost′ ≡ outOf answer 0 cost
+  pub words : new ≡ wordsAfter (answer .values) old
 
-pub record StepReturns (book : List ℕ) (s x next cost node number next′ cost′ node′ : ℕ) : Type 0 where
+-- a call returns what is said: an answer that the document allows, stored
+pub record Returns (Says : Answer → Type 0) (old : List ℕ) (number : ℕ) (new : List ℕ) : Type 0 where
   pub answer : Answer
-  pub says : StepSays book s x answer
-  pub returned : number ≡ answer .number
-  pub next-word : next′ ≡ outOf answer 0 next
-  pub cost-word : cost′ ≡ outOf answer 1 cost
-  pub node-word : node′ ≡ outOf answer 2 node
+  pub says : Says answer
+  pub stored : Stored answer old number new
 
-pub record PlanReturns (book sheet : List ℕ) (a b : ℕ) (buffer : List ℕ) (cost count number : ℕ) (buffer′ : List ℕ) (cost′ count′ : ℕ) : Type 0 where
-  pub answer : Answer
-  pub says : PlanSays book sheet a b buffer answer buffer′
-  pub returned : number ≡ answer .number
-  pub cost-word : cost′ ≡ outOf answer 0 cost
-  pub count-word : count′ ≡ outOf answer 1 count
+-- Exit: the cost; Step: the state, the cost and the acting node (document 02, W-202); Plan: the cost and the count
+abbrev pub ExitReturns : (book sheet : List ℕ) (m x cost number cost′ : ℕ) → Type 0
+ExitReturns book sheet m x cost number cost′ = Returns (ExitSays book sheet m x) (cost ∷ []) number (cost′ ∷ [])
 
--- a call that gives a list: the returned number and the length, by the answer that the document gives
-pub record ListReturns (Says : Answer → List ℕ → Type 0) (size number : ℕ) (out′ : List ℕ) (size′ : ℕ) : Type 0 where
-  pub answer : Answer
-  pub says : Says answer out′
-  pub returned : number ≡ answer .number
-  pub size-word : size′ ≡ outOf answer 0 size
+abbrev pub StepReturns : (book : List ℕ) (s x next cost node number next′ cost′ node′ : ℕ) → Type 0
+StepReturns book s x next cost node number next′ cost′ node′ =
+    Returns (StepSays book s x) (next ∷ cost ∷ node ∷ []) number (next′ ∷ cost′ ∷ node′ ∷ [])
+
+abbrev pub PlanReturns : (book sheet : List ℕ) (a b : ℕ) (buffer : List ℕ) (cost count number : ℕ) (buffer′ : List ℕ) (cost′ count′ : ℕ) → Type 0
+PlanReturns book sheet a b buffer cost count number buffer′ cost′ count′ =
+    Returns (λ answer. PlanSays book sheet a b buffer answer buffer′) (cost ∷ count ∷ []) number (cost′ ∷ count′ ∷ [])
+
+-- a call that gives a list: its length
+abbrev pub ListReturns : (Answer → List ℕ → Type 0) → (size number : ℕ) (out′ : List ℕ) (size′ : ℕ) → Type 0
+ListReturns Says size number out′ size′ = Returns (λ answer. Says answer out′) (size ∷ []) number (size′ ∷ [])
 
 -- Write, and the generator of ladders (document 02, W-208)
 abbrev pub WriteReturns : (book out : List ℕ) (size number : ℕ) (out′ : List ℕ) (size′ : ℕ) → Type 0
@@ -60,21 +60,21 @@ abbrev pub LoadReturns : List ℕ → List ℕ → List ℕ → ℕ → ℕ → 
 LoadReturns book sheet stream number bytes commands book′ sheet′ =
     LoadSays book sheet stream (record { bytes = bytes; commands = commands; number = number }) book′ sheet′
 
--- which list a choice is of, 0 the first and 1 the second, and how many of its commands it has
-abbrev pub listOf : Choice → ℕ
-listOf (first k) = 0
-listOf (second k) = 1
+-- Choose as an answer: which list, 0 the first and 1 the second, and how many of its commands are used
+abbrev pub choiceGives : Choice → ℕ → Answer
+choiceGives (first k) zero = gives (0 ∷ k ∷ [])
+choiceGives (second k) zero = gives (1 ∷ k ∷ [])
+choiceGives choice (suc n) = refuses (suc n)
 
+-- how many of its commands a choice has
 abbrev pub countOf : Choice → ℕ
 countOf (first k) = k
 countOf (second k) = k
 
--- Choose: the number, and which part of which list; a refusal stores neither
-pub record ChooseReturns (book : List ℕ) (a b : ℕ) (one two : List ℕ) (list used number list′ used′ : ℕ) : Type 0 where
-  pub choice : Choice
-  pub says : ChoiceSays book a b one two choice number
-  pub list-word : list′ ≡ cond (eqb number 0) (listOf choice) list
-  pub used-word : used′ ≡ cond (eqb number 0) (countOf choice) used
+abbrev pub ChooseReturns : (book : List ℕ) (a b : ℕ) (one two : List ℕ) (list used number list′ used′ : ℕ) → Type 0
+ChooseReturns book a b one two list used number list′ used′ =
+    Returns (λ answer. (choice : Choice) × (k : ℕ) × ChoiceSays book a b one two choice k × (answer ≡ choiceGives choice k))
+    (list ∷ used ∷ []) number (list′ ∷ used′ ∷ [])
 
 -- the import of a reading: the number and the length, by the answer that document 02 gives (W-203)
 abbrev pub TimingReturns : (n x v : ℕ) (reading : Reading) (dead : Float) (out : List ℕ) (size number : ℕ) (out′ : List ℕ) (size′ : ℕ) → Type 0
@@ -91,10 +91,11 @@ ImportReturns n x v kind seconds dead out size number out′ size′ =
     (λ k. (number ≡ k) × (out′ ≡ out) × (size′ ≡ size))
     ((reading : Reading) × (readingAs kind seconds ≡ some reading) × TimingReturns n x v reading dead out size number out′ size′)
 
--- a walker command: the number, the walkers' states, the cost and the acting node, by the answer that document 02 gives (W-206)
-pub record WalkReturns (book : List ℕ) (n k : ℕ) (states : List ℕ) (w x cost acted number : ℕ) (states′ : List ℕ) (cost′ acted′ : ℕ) : Type 0 where
-  pub answer : Answer
-  pub says : WalkSays book n k states w x answer states′
-  pub returned : number ≡ answer .number
-  pub cost-word : cost′ ≡ outOf answer 1 cost
-  pub acted-word : acted′ ≡ outOf answer 2 acted
+-- a walker command: the state stands in the walker's record, and the words take the values behind it, the cost and the acting node (W-206)
+abbrev pub behindState : Answer → Answer
+behindState answer = record { number = answer .number; values = drop 1 (answer .values) }
+
+abbrev pub WalkReturns : (book : List ℕ) (n k : ℕ) (states : List ℕ) (w x cost acted number : ℕ) (states′ : List ℕ) (cost′ acted′ : ℕ) → Type 0
+WalkReturns book n k states w x cost acted number states′ cost′ acted′ =
+    Returns (λ behind. (answer : Answer) × WalkSays book n k states w x answer states′ × (behind ≡ behindState answer))
+    (cost ∷ acted ∷ []) number (cost′ ∷ acted′ ∷ [])

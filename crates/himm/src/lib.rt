@@ -6,15 +6,11 @@ ghost use Rattle.definitions.specs.Merge.{MergeSays};
 ghost use Rattle.definitions.specs.Walk.{OpenWalkersSay};
 ghost use Rattle.himm.specs.Exports.{LoadReturns, LadderReturns, ExitReturns, StepReturns, PlanReturns, WriteReturns, ChooseReturns, TimingReturns, ImportReturns, WalkReturns};
 ghost use Rattle.importing.specs.Meaning.{readingOf};
-use choosing::Chosen;
-use exiting::ExitAnswer;
-use importing::ImportAnswer;
 use importing::Reading;
 use importing::Timing;
-use ladders::LadderAnswer;
-use planning::PlanAnswer;
-use stepping::StepAnswer;
-use writing::WriteAnswer;
+
+mod by_command;
+mod store;
 
 // Open fresh: root 0 with start node 0. Refuses 1.
 #[no_mangle]
@@ -45,13 +41,7 @@ pub extern "C" fn himm_open_table(rows: &[u32], book: &mut [u32], sheet: &mut [u
 pub extern "C" fn himm_ladder(depth: u32, out: &mut [u32], length: &mut u32) -> u32
     ensures { λ r. ⌜ LadderReturns depth (now (out .entry)) (now (length .entry)) r (now (out .exit)) (now (length .exit)) ⌝ }
 {
-    match ladders::ladder(depth, out) {
-        LadderAnswer::Written(words) => {
-            *length = words;
-            0
-        }
-        LadderAnswer::Refused(k) => k,
-    }
+    store::rows(ladders::ladder(depth, out), length)
 }
 
 // Merge: a third book and its sheet from two books, a new root above both. Refuses 1, 2 (the first book), 2 (the second), 12, 19.
@@ -97,13 +87,7 @@ pub extern "C" fn himm_exit(
 ) -> u32
     ensures { λ r. ⌜ ExitReturns (now (book .entry)) (now (sheet .entry)) machine command (now (cost .entry)) r (now (cost .exit)) ⌝ }
 {
-    match exiting::exit(book, sheet, machine, command) {
-        ExitAnswer::Costs(c) => {
-            *cost = c;
-            0
-        }
-        ExitAnswer::Refused(k) => k,
-    }
+    store::exit(exiting::exit(book, sheet, machine, command), cost)
 }
 
 // Step: the state that a command leads to, its cost, and the node whose transition was used. Refuses 1, 2, 6, 7, 14, 17.
@@ -119,19 +103,7 @@ pub extern "C" fn himm_step(
     ensures { λ r. ⌜ StepReturns (now (book .entry)) state command (now (next .entry)) (now (cost .entry)) (now (node .entry)) r
         (now (next .exit)) (now (cost .exit)) (now (node .exit)) ⌝ }
 {
-    match stepping::step(book, state, command) {
-        StepAnswer::Moved {
-            state,
-            cost: c,
-            node: n,
-        } => {
-            *next = state;
-            *cost = c;
-            *node = n;
-            0
-        }
-        StepAnswer::Refused(k) => k,
-    }
+    store::step(stepping::step(book, state, command), next, cost, node)
 }
 
 // Plan: a cheapest list of commands from a state to another at the front of the buffer, its cost and how many commands it has. Refuses 1, 2, 3,
@@ -149,14 +121,7 @@ pub extern "C" fn himm_plan(
     ensures { λ r. ⌜ PlanReturns (now (book .entry)) (now (sheet .entry)) from to (now (plan .entry)) (now (cost .entry)) (now (count .entry)) r
         (now (plan .exit)) (now (cost .exit)) (now (count .exit)) ⌝ }
 {
-    match planning::plan(book, sheet, from, to, plan) {
-        PlanAnswer::Planned { cost: c, count: n } => {
-            *cost = c;
-            *count = n;
-            0
-        }
-        PlanAnswer::Refused(k) => k,
-    }
+    store::plan(planning::plan(book, sheet, from, to, plan), cost, count)
 }
 
 // Write: the stream of a book at the front of out, and its length. Refuses 1, 2, 15.
@@ -164,13 +129,7 @@ pub extern "C" fn himm_plan(
 pub extern "C" fn himm_write(book: &[u32], out: &mut [u8], length: &mut u32) -> u32
     ensures { λ r. ⌜ WriteReturns (now (book .entry)) (now (out .entry)) (now (length .entry)) r (now (out .exit)) (now (length .exit)) ⌝ }
 {
-    match writing::write(book, out) {
-        WriteAnswer::Written(n) => {
-            *length = n;
-            0
-        }
-        WriteAnswer::Refused(k) => k,
-    }
+    store::written(writing::write(book, out), length)
 }
 
 // Choose: which of two lists is the cheaper one from a state to another (0 the first, 1 the second), and how many of its commands are
@@ -188,19 +147,7 @@ pub extern "C" fn himm_choose(
     ensures { λ r. ⌜ ChooseReturns (now (book .entry)) from to (now (first .entry)) (now (second .entry)) (now (which .entry)) (now (used .entry)) r
         (now (which .exit)) (now (used .exit)) ⌝ }
 {
-    match choosing::choice(book, from, to, first, second) {
-        Chosen::First(n) => {
-            *which = 0;
-            *used = n as u32;
-            0
-        }
-        Chosen::Second(n) => {
-            *which = 1;
-            *used = n as u32;
-            0
-        }
-        Chosen::Refused(k) => k,
-    }
+    store::chosen(choosing::choice(book, from, to, first, second), which, used)
 }
 
 // Stores what the import of a timing gives.
@@ -215,13 +162,10 @@ fn import(
     ensures { λ r. ⌜ TimingReturns node command target (readingOf (timing .reading)) (timing .«dead_time») (now (out .entry)) (now (length .entry)) r
         (now (out .exit)) (now (length .exit)) ⌝ }
 {
-    match importing::import(node, command, target, timing, out) {
-        ImportAnswer::Written(size) => {
-            *length = size;
-            0
-        }
-        ImportAnswer::Refused(k) => k,
-    }
+    store::imported(
+        importing::import(node, command, target, timing, out),
+        length,
+    )
 }
 
 // Import: the bytes of the stream command that a timing stands for at the front of out, and their length. The reading is seconds taken (kind 0)
@@ -281,16 +225,9 @@ pub extern "C" fn himm_walk(
     ensures { λ r. ⌜ WalkReturns (now (book .entry)) node limit (now («walkers» .entry)) walker command (now (cost .entry)) (now (acted .entry)) r
         (now («walkers» .exit)) (now (cost .exit)) (now (acted .exit)) ⌝ }
 {
-    match walking::walk(book, node, limit, walkers, walker, command) {
-        StepAnswer::Moved {
-            state: _,
-            cost: c,
-            node: n,
-        } => {
-            *cost = c;
-            *acted = n;
-            0
-        }
-        StepAnswer::Refused(number) => number,
-    }
+    store::walked(
+        walking::walk(book, node, limit, walkers, walker, command),
+        cost,
+        acted,
+    )
 }

@@ -10,7 +10,7 @@ use native.Mathlib.Omega.{arith}
 use lib.ListN.{length, take, drop}
 use lib.Seq.{take-at}
 use borrow.Author.Tests.{not-true}
-use Rattle.definitions.specs.Basics.{All, isSome}
+use Rattle.definitions.specs.Basics.{asItIs, All, isSome}
 use Rattle.definitions.specs.Limits.{nodes, planBuffer}
 use Rattle.definitions.specs.Tree.{Tree, Sound, isState}
 use Rattle.definitions.specs.Book.{encode, treeOf, WellFormed}
@@ -22,6 +22,7 @@ use Rattle.definitions.specs.Load.{Outcome, load, stopped, after, expected}
 use Rattle.definitions.specs.Open.{Opening, ComesOf}
 use Rattle.definitions.specs.Answer.{Answer, refuses, InOrder}
 use Rattle.definitions.specs.Calls.{OpenSays, LoadAnswer, LoadDone, LoadSays, GivesPlan, planRefusals, PlanSays}
+use Rattle.definitions.specs.ByCommand.{byNode}
 use Rattle.definitions.specs.Demand.{Bytes, Loads, refreshAlone, withRefresh, GoodPlan, Demand3}
 use Rattle.definitions.proofs.Options.{none-some, true-false, isSome-true, isSome-false, and-true}
 use Rattle.definitions.proofs.Answers.{load-done, plan-on, open-done}
@@ -107,7 +108,7 @@ refreshed-bytes [] bytes = ((omega arith, tt), tt)
 refreshed-bytes (stream ∷ streams) bytes = (bytes .0, refreshed-bytes streams (bytes .1))
 
 loads-refreshed : {t : Tree} {book sheet book′ sheet′ : List ℕ} (streams : List (List ℕ)) → Carried t book sheet → All Bytes streams
-    → Loads book sheet (withRefresh streams) book′ sheet′ → PlanReady (expected t (withRefresh streams)) book′ sheet′
+    → Loads asItIs book sheet (withRefresh streams) book′ sheet′ → PlanReady (expected t (withRefresh streams)) book′ sheet′
 unfolding expected
 loads-refreshed {t} {book′ = book′} {sheet′ = sheet′} [] kept bytes (Loads.then says Loads.done) =
     subst (λ (o : Outcome). PlanReady (o .tree) book′ sheet′) (sym (load-refresh t)) (refresh-done kept says)
@@ -116,7 +117,7 @@ loads-refreshed (stream ∷ streams) kept bytes (Loads.then says rest) =
 
 -- from a holding just opened
 pub prepared : (o : Opening) (streams : List (List ℕ)) → All Bytes streams → (lent lent-sheet : List ℕ) {opened-book opened-sheet book sheet : List ℕ}
-    → OpenSays o lent lent-sheet 0 opened-book opened-sheet → Loads opened-book opened-sheet (withRefresh streams) book sheet
+    → OpenSays o lent lent-sheet 0 opened-book opened-sheet → Loads asItIs opened-book opened-sheet (withRefresh streams) book sheet
     → (t : Tree) → ComesOf o t → PlanReady (expected t (withRefresh streams)) book sheet
 prepared o streams bytes lent lent-sheet opening calls t comes = loads-refreshed streams (opened o t comes lent lent-sheet opening) bytes calls
 
@@ -185,7 +186,21 @@ answered sound ready a b room says =
 
 -- ---- demand 3
 
-pub demand-3 : Demand3
-demand-3 o t comes streams bytes lent lent-sheet opened-book opened-sheet book sheet opening calls a b at-a at-b buffer room answer buffer′ says =
+-- Loads on lent books are Loads on the books turned by node
+loads-turned : (turn : List ℕ → List ℕ) {book sheet book′ sheet′ : List ℕ} {streams : List (List ℕ)} → Loads turn book sheet streams book′ sheet′
+    → Loads asItIs (turn book) sheet streams (turn book′) sheet′
+loads-turned turn Loads.done = Loads.done
+loads-turned turn (Loads.then says rest) = Loads.then says (loads-turned turn rest)
+
+-- however the books are turned: what is promised is said of them by node
+on-turned : (turn : List ℕ → List ℕ) → Demand3 turn
+on-turned turn o t comes streams bytes lent lent-sheet opened-book opened-sheet book sheet opening calls a b at-a at-b buffer room answer buffer′ says =
     answered (expected-sound (comes-sound o t comes) (withRefresh streams) (refreshed-bytes streams bytes))
-    (prepared o streams bytes lent lent-sheet opening calls t comes) a b room says .demanded at-a at-b
+    (prepared o streams bytes (turn lent) lent-sheet opening (loads-turned turn calls) t comes) a b room says .demanded at-a at-b
+
+pub demand-3 : Demand3 asItIs
+demand-3 = on-turned asItIs
+
+-- and on books by command (document 02, W-209)
+pub demand-3-by-command : Demand3 byNode
+demand-3-by-command = on-turned byNode

@@ -4,7 +4,7 @@ use mathlib.Core.List.{List, [], _∷_, _++_}
 use Prim.Native.Nat.{ℕ, zero, suc, _+_, _-_, _≤_, _<_}
 use native.Mathlib.Omega.{arith}
 use lib.ListN.{length, getD, take, drop, drop-of-length-le}
-use Rattle.definitions.specs.Basics.{All}
+use Rattle.definitions.specs.Basics.{asItIs, All}
 use Rattle.definitions.specs.Calls.{LoadAnswer, LoadSays}
 use Rattle.definitions.specs.Demand.{Bytes, Loads}
 use Rattle.definitions.proofs.Kept.{drop-bytes}
@@ -12,8 +12,8 @@ use Rattle.wholerun.specs.Ends.{Rising, streamsOf}
 use Rattle.wholerun.proofs.Ends.{rises, next-end}
 
 -- two lists of Loads, the second on what the first left
-pub loads-both : {b s m n b′ s′ : List ℕ} {first second : List (List ℕ)} → Loads b s first m n → Loads m n second b′ s′
-    → Loads b s (first ++ second) b′ s′
+pub loads-both : {b s m n b′ s′ : List ℕ} {first second : List (List ℕ)} → Loads asItIs b s first m n → Loads asItIs m n second b′ s′
+    → Loads asItIs b s (first ++ second) b′ s′
 loads-both Loads.done more = more
 loads-both (Loads.then says rest) more = Loads.then says (loads-both rest more)
 
@@ -24,7 +24,7 @@ pub record StreamsLeft (b s bytes ends b′ s′ : List ℕ) (from i : ℕ) : Ty
   pub book-length : length b′ ≡ length b
   pub sheet-length : length s′ ≡ length s
   pub rising : Rising from (drop i ends) (length bytes)
-  pub rest : {b″ s″ : List ℕ} → Loads b′ s′ (streamsOf from (drop i ends) bytes) b″ s″ → Loads b s (streamsOf 0 ends bytes) b″ s″
+  pub rest : {b″ s″ : List ℕ} → Loads asItIs b′ s′ (streamsOf from (drop i ends) bytes) b″ s″ → Loads asItIs b s (streamsOf 0 ends bytes) b″ s″
 
 module _ {b s bytes ends : List ℕ} where
   -- at first all are left
@@ -52,7 +52,7 @@ module _ {b s bytes ends : List ℕ} where
         }
 
     -- where none is left, all are loaded
-    pub left-none : length ends ≤ i → Loads b s (streamsOf 0 ends bytes) b′ s′
+    pub left-none : length ends ≤ i → Loads asItIs b s (streamsOf 0 ends bytes) b′ s′
     left-none all = left .rest (rw (drop-of-length-le ends all) Loads.done)
 
 -- ---- streams of bytes

@@ -3,6 +3,7 @@ ghost use mathlib.Core.Path.{_≡_};
 ghost use mathlib.Core.List.{[], _∷_};
 ghost use lib.ListN.{length};
 ghost use Rattle.definitions.specs.Calls.{OpenSays};
+ghost use Rattle.definitions.specs.Basics.{asItIs};
 ghost use Rattle.definitions.specs.Demand.{Loads, refreshAlone};
 ghost use Rattle.book.specs.Decides.{Decides};
 ghost use Rattle.wholerun.specs.Ends.{Rising, streamsOf};
@@ -57,7 +58,7 @@ fn open(opening: Opening, rows: &[u32], book: &mut [u32], sheet: &mut [u32]) -> 
 // Does a Load for each stream, each on what the one before left.
 fn load_all(book: &mut [u32], sheet: &mut [u32], bytes: &[u8], ends: &[usize])
     requires { ⌜ Rising 0 (now ends) (length (now bytes)) ⌝ }
-    ensures { λ _. ⌜ Loads (now (book .entry)) (now (sheet .entry)) (streamsOf 0 (now (ends .entry)) (now (bytes .entry))) (now (book .exit)) (now (sheet .exit)) ⌝ }
+    ensures { λ _. ⌜ Loads asItIs (now (book .entry)) (now (sheet .entry)) (streamsOf 0 (now (ends .entry)) (now (bytes .entry))) (now (book .exit)) (now (sheet .exit)) ⌝ }
 {
     let mut from = 0usize;
     let mut i = 0usize;
@@ -71,7 +72,7 @@ fn load_all(book: &mut [u32], sheet: &mut [u32], bytes: &[u8], ends: &[usize])
 
 // Does a Load of a refresh alone.
 fn refresh(book: &mut [u32], sheet: &mut [u32])
-    ensures { λ _. ⌜ Loads (now (book .entry)) (now (sheet .entry)) (refreshAlone ∷ []) (now (book .exit)) (now (sheet .exit)) ⌝ }
+    ensures { λ _. ⌜ Loads asItIs (now (book .entry)) (now (sheet .entry)) (refreshAlone ∷ []) (now (book .exit)) (now (sheet .exit)) ⌝ }
 {
     loading::load(book, sheet, &[0x18]);
 }

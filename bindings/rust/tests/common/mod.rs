@@ -1,12 +1,14 @@
-//! Each call made twice, by the library and by the model, with everything that it gives and leaves compared.
+//! Each call made by the library, in both layouts of a book where it is lent one, and by the model, with everything that it gives and
+//! leaves compared.
 #![allow(dead_code)]
 
 pub mod damage;
+pub mod layouts;
 pub mod season;
 pub mod walkers;
 pub mod words;
 
-use himm::{raw, Refusal, Timing};
+use himm::{raw, Layout, Refusal, Timing};
 use himm_model::book::{hold_at, leave_at};
 use himm_model::flat::Flat;
 use himm_model::import::{Import, Reading};
@@ -14,6 +16,7 @@ use himm_model::sheet::{is_stale, is_true, machine_row, node_row, Exits};
 use himm_model::stream::{Command, Loaded, Row, Station};
 use himm_model::tree::{Moved, Tree};
 use himm_model::{book, calls, random, sheet, COMMANDS, MACHINES, NODES};
+use layouts::{laid, laid_back, LAYOUTS};
 use std::fmt::Debug;
 
 /// What an out-parameter holds before a call.
@@ -102,19 +105,20 @@ pub fn counts<const N: usize>(answers: &[u32], numbers: [u32; N]) -> [usize; N] 
     numbers.map(|number| answers.iter().filter(|&&answer| answer == number).count())
 }
 
-/// A book and its sheet, lent to each call.
+/// A book by node and its sheet, lent to each call.
 #[derive(Clone, PartialEq, Eq)]
 pub struct Holding {
     pub book: Vec<u32>,
     pub sheet: Vec<u32>,
 }
 
-/// What the model makes of a holding, worked out once for many calls.
+/// What the model makes of a holding, worked out once for many calls, and its book by command.
 pub struct View {
     pub book: Result<Tree, u32>,
     pub whole: Result<Tree, u32>,
     exits: Vec<Exits>,
     flat: Option<Flat>,
+    by_command: Vec<u32>,
 }
 
 impl Holding {
@@ -158,7 +162,23 @@ impl Holding {
         let book = calls::read_book(&self.book);
         let exits = book.as_ref().map_or(vec![], sheet::all_exits);
         let flat = book.as_ref().ok().map(|_| Flat::of(&self.book));
-        View { whole: calls::read_holding(&self.book, &self.sheet), book, exits, flat }
+        View { whole: calls::read_holding(&self.book, &self.sheet), book, exits, flat, by_command: laid(Layout::ByCommand, &self.book) }
+    }
+
+    /// The book in a layout, as it is lent to a call that only reads it.
+    fn lent<'a>(&'a self, view: &'a View, layout: Layout) -> &'a [u32] {
+        match layout {
+            Layout::ByNode => &self.book,
+            Layout::ByCommand => &view.by_command,
+        }
+    }
+
+    /// A call that may write the book, in a layout, and the sheet; the holding is by node before and after it.
+    pub fn in_layout<T>(&mut self, layout: Layout, call: impl FnOnce(&mut [u32], &mut [u32]) -> T) -> T {
+        let mut book = laid(layout, &self.book);
+        let given = call(&mut book, &mut self.sheet);
+        self.book = laid_back(layout, &book);
+        given
     }
 
     pub fn tree(&self) -> Tree {
@@ -168,49 +188,59 @@ impl Holding {
     /// Loads a stream and compares the answer, the book and every row of the sheet.
     pub fn load(&mut self, stream: &[u8]) -> Loaded {
         let before = self.clone();
-        let got = himm::load(&mut self.book, &mut self.sheet, stream);
-        let got = Loaded { bytes: got.bytes, commands: got.commands, number: got.result.err().map_or(0, |r| r.number()) };
-        match calls::read_holding(&before.book, &before.sheet) {
-            Err(number) => {
-                assert_eq!(got, Loaded { bytes: 0, commands: 0, number });
-                assert!(*self == before, "a refused load wrote");
-            }
-            Ok(tree) => {
-                let mut station = calls::station(tree, &before.sheet);
-                assert_eq!(got, station.load(stream));
-                self.compare(&before, &station);
+        let expected = calls::read_holding(&before.book, &before.sheet).map(|tree| {
+            let mut station = calls::station(tree, &before.sheet);
+            (station.load(stream), station)
+        });
+        let answer = expected.as_ref().map_or_else(|&number| Loaded { bytes: 0, commands: 0, number }, |(loaded, _)| *loaded);
+        for layout in LAYOUTS {
+            *self = before.clone();
+            let got = self.in_layout(layout, |book, sheet| layout.load(book, sheet, stream));
+            let number = got.result.err().map_or(0, Refusal::number);
+            assert_eq!(Loaded { bytes: got.bytes, commands: got.commands, number }, answer, "{layout:?}");
+            match &expected {
+                Err(_) => assert!(*self == before, "a refused load wrote"),
+                Ok((_, station)) => self.compare(&before, station),
             }
         }
-        got
+        answer
     }
 
     /// Merges two books over this holding and compares the answer and every word with the model's; gives the refusal or 0.
     pub fn merge(&mut self, first: &[u32], second: &[u32]) -> u32 {
-        let before = self.clone();
-        let answer = himm::merge(first, second, &mut self.book, &mut self.sheet);
-        self.compare_written(answer, &before, calls::merge(first, second, before.book.len(), before.sheet.len()))
+        let expected = calls::merge(first, second, self.book.len(), self.sheet.len());
+        self.compare_written(expected, |layout, book, sheet| layout.merge(&laid(layout, first), &laid(layout, second), book, sheet))
     }
 
     /// Opens a table over this holding and compares likewise; gives the refusal or 0.
     pub fn open_table(&mut self, rows: &[u32]) -> u32 {
-        let (before, lent) = (self.clone(), rows.to_vec());
-        let answer = himm::open_table(&lent, &mut self.book, &mut self.sheet);
+        let (expected, lent) = (calls::open_table(rows, self.book.len(), self.sheet.len()), rows.to_vec());
+        let number = self.compare_written(expected, |layout, book, sheet| layout.open_table(&lent, book, sheet));
         assert!(lent == rows, "another table than was lent");
-        self.compare_written(answer, &before, calls::open_table(rows, before.book.len(), before.sheet.len()))
+        number
     }
 
     /// The answer of a call that writes a book and a sheet whole is the model's, and so is every word of both; where it is refused, nothing
     /// is written. Gives the refusal or 0.
-    fn compare_written(&self, answer: Result<(), Refusal>, before: &Holding, expected: Result<(Vec<u32>, Vec<u32>), u32>) -> u32 {
-        assert_eq!(answer.map_err(Refusal::number), expected.as_ref().map(|_| ()).map_err(|&k| k));
-        match expected {
-            Err(_) => assert!(self == before, "a refused call wrote"),
-            Ok((book, sheet)) => {
-                assert!(self.book == book, "another book");
-                assert!(self.sheet == sheet, "another sheet");
+    pub fn compare_written(
+        &mut self,
+        expected: Result<(Vec<u32>, Vec<u32>), u32>,
+        call: impl Fn(Layout, &mut [u32], &mut [u32]) -> Result<(), Refusal>,
+    ) -> u32 {
+        let before = self.clone();
+        for layout in LAYOUTS {
+            *self = before.clone();
+            let answer = self.in_layout(layout, |book, sheet| call(layout, book, sheet));
+            assert_eq!(answer.map_err(Refusal::number), expected.as_ref().map(|_| ()).map_err(|&k| k), "{layout:?}");
+            match &expected {
+                Err(_) => assert!(*self == before, "a refused call wrote, {layout:?}"),
+                Ok((book, sheet)) => {
+                    assert!(self.book == *book, "another book, {layout:?}");
+                    assert!(self.sheet == *sheet, "another sheet, {layout:?}");
+                }
             }
         }
-        answer.err().map_or(0, Refusal::number)
+        expected.err().unwrap_or(0)
     }
 
     /// The book is the station's; marks are as expected, kept rows keep their words, and the rest is true.
@@ -245,10 +275,13 @@ impl Holding {
 
     pub fn compare_exit(&self, view: &View, machine: u32, command: u32) {
         let expected = view.whole.as_ref().map_err(|&k| k).and_then(|t| calls::exit(t, &self.sheet, &view.exits, machine, command));
-        let (b, s) = (&self.book, &self.sheet);
-        let mut cost = UNTOUCHED;
-        let number = unsafe { raw::himm_exit(b.as_ptr(), b.len(), s.as_ptr(), s.len(), machine, command, &mut cost) };
-        assert_eq!((number, cost), expected.map_or_else(|k| (k, UNTOUCHED), |c| (0, c)), "exit {machine} {command}");
+        for layout in LAYOUTS {
+            let call = if layout == Layout::ByNode { raw::himm_exit } else { raw::himm_exit_by_command };
+            let (b, s, mut cost) = (self.lent(view, layout), &self.sheet, UNTOUCHED);
+            let number = unsafe { call(b.as_ptr(), b.len(), s.as_ptr(), s.len(), machine, command, &mut cost) };
+            let expected = expected.map_or_else(|k| (k, UNTOUCHED), |c| (0, c));
+            assert_eq!((number, cost), expected, "exit {machine} {command}, {layout:?}");
+        }
     }
 
     /// Every node and command, and some out of range.
@@ -263,14 +296,15 @@ impl Holding {
     pub fn compare_step(&self, view: &View, state: u32, command: u32) {
         let expected = view.book.as_ref().map_err(|&k| k).and_then(|t| calls::step(t, state, command));
         let words = |to: Moved| (0, [to.state as u32, to.cost, to.node as u32]);
-        assert_eq!(self.step(state, command), expected.map_or_else(|k| (k, UNTOUCHED_STEP), words), "step {state} {command}");
+        let expected = expected.map_or_else(|k| (k, UNTOUCHED_STEP), words);
+        for layout in LAYOUTS {
+            assert_eq!(step(layout, self.lent(view, layout), state, command), expected, "step {state} {command}, {layout:?}");
+        }
     }
 
     /// What Step returns, and what it leaves in the words for state, cost and node.
     pub fn step(&self, state: u32, command: u32) -> (u32, [u32; 3]) {
-        let [mut next, mut cost, mut node] = UNTOUCHED_STEP;
-        let number = unsafe { raw::himm_step(self.book.as_ptr(), self.book.len(), state, command, &mut next, &mut cost, &mut node) };
-        (number, [next, cost, node])
+        step(Layout::ByNode, &self.book, state, command)
     }
 
     /// Plans between all pairs of some nodes.
@@ -292,48 +326,63 @@ impl Holding {
 
     /// The refusal or the least cost is the model's; the list leads there at that cost and passes no state twice.
     pub fn compare_plan(&self, view: &View, from: u32, to: u32, room: usize) -> u32 {
-        let (b, s) = (&self.book, &self.sheet);
-        let mut plan = vec![FILLER; room];
+        let expected = view.expected_plan(&self.sheet, from, to, room);
+        for layout in LAYOUTS {
+            let (number, [cost, count], plan) = self.plan_in(layout, view, from, to, room);
+            match expected {
+                Err(refusal) => {
+                    assert_eq!((number, cost, count), (refusal, UNTOUCHED, UNTOUCHED), "plan {from} {to}, {layout:?}");
+                    assert!(plan.iter().all(|&byte| byte == FILLER), "a refused plan wrote");
+                }
+                Ok(least) => {
+                    assert_eq!((number, cost), (0, least), "plan {from} {to}, {layout:?}");
+                    let tree = view.book.as_ref().expect("a well-formed book");
+                    walk(tree, from as usize, to as usize, least, &plan, count as usize);
+                }
+            }
+        }
+        expected.err().unwrap_or(0)
+    }
+
+    /// What Plan returns in a layout, what it leaves in the words for cost and count, and the buffer.
+    fn plan_in(&self, layout: Layout, view: &View, from: u32, to: u32, room: usize) -> (u32, [u32; 2], Vec<u8>) {
+        let call = if layout == Layout::ByNode { raw::himm_plan } else { raw::himm_plan_by_command };
+        let (b, s, mut plan) = (self.lent(view, layout), &self.sheet, vec![FILLER; room]);
         let (mut cost, mut count) = (UNTOUCHED, UNTOUCHED);
         let number = unsafe {
             let (at, length) = (plan.as_mut_ptr(), plan.len());
-            raw::himm_plan(b.as_ptr(), b.len(), s.as_ptr(), s.len(), from, to, at, length, &mut cost, &mut count)
+            call(b.as_ptr(), b.len(), s.as_ptr(), s.len(), from, to, at, length, &mut cost, &mut count)
         };
-        match view.expected_plan(&self.sheet, from, to, room) {
-            Err(refusal) => {
-                assert_eq!((number, cost, count), (refusal, UNTOUCHED, UNTOUCHED), "plan {from} {to}");
-                assert!(plan.iter().all(|&byte| byte == FILLER), "a refused plan wrote");
-            }
-            Ok(least) => {
-                assert_eq!((number, cost), (0, least), "plan {from} {to}");
-                let tree = view.book.as_ref().expect("a well-formed book");
-                walk(tree, from as usize, to as usize, least, &plan, count as usize);
-            }
-        }
-        number
+        (number, [cost, count], plan)
     }
 
     /// Write with room to spare, with just enough, with one byte too few and with none.
     pub fn compare_write(&self, view: &View) {
         let long = view.book.as_ref().map_or(0, |tree| himm_model::write::stream(tree).len());
-        for room in [himm::STREAM_BYTES, long, long.saturating_sub(1), 0] {
+        for (room, layout) in [himm::STREAM_BYTES, long, long.saturating_sub(1), 0].into_iter().flat_map(|room| LAYOUTS.map(|l| (room, l)))
+        {
             let expected = view.book.as_ref().map_err(|&k| k).and_then(|t| calls::write(t, room));
-            let write = |out, length| unsafe { raw::himm_write(self.book.as_ptr(), self.book.len(), out, room, length) };
-            compare_output(&"write", room, FILLER, &expected, write);
+            let call = if layout == Layout::ByNode { raw::himm_write } else { raw::himm_write_by_command };
+            let b = self.lent(view, layout);
+            compare_output(&("write", layout), room, FILLER, &expected, |out, length| unsafe {
+                call(b.as_ptr(), b.len(), out, room, length)
+            });
         }
     }
 
     pub fn compare_choice(&self, view: &View, from: u32, to: u32, first: &[u8], second: &[u8]) -> u32 {
         let expected = view.book.as_ref().map_err(|&k| k).and_then(|t| calls::choose(t, from, to, first, second));
-        let b = &self.book;
-        let (mut which, mut used) = (UNTOUCHED, UNTOUCHED);
-        let number = unsafe {
-            let (one, two) = ((first.as_ptr(), first.len()), (second.as_ptr(), second.len()));
-            raw::himm_choose(b.as_ptr(), b.len(), from, to, one.0, one.1, two.0, two.1, &mut which, &mut used)
-        };
-        let expected = expected.map_or_else(|k| (k, UNTOUCHED, UNTOUCHED), |(w, n)| (0, w, n as u32));
-        assert_eq!((number, which, used), expected, "choose {from} {to} {first:?} {second:?}");
-        number
+        for layout in LAYOUTS {
+            let call = if layout == Layout::ByNode { raw::himm_choose } else { raw::himm_choose_by_command };
+            let (b, mut which, mut used) = (self.lent(view, layout), UNTOUCHED, UNTOUCHED);
+            let number = unsafe {
+                let (one, two) = ((first.as_ptr(), first.len()), (second.as_ptr(), second.len()));
+                call(b.as_ptr(), b.len(), from, to, one.0, one.1, two.0, two.1, &mut which, &mut used)
+            };
+            let expected = expected.map_or_else(|k| (k, UNTOUCHED, UNTOUCHED), |(w, n)| (0, w, n as u32));
+            assert_eq!((number, which, used), expected, "choose {from} {to} {first:?} {second:?}, {layout:?}");
+        }
+        expected.err().unwrap_or(0)
     }
 
     /// The stream of the book, loaded into another holding, leaves the same book, all stale.
@@ -352,6 +401,14 @@ impl View {
         let tree = self.whole.as_ref().map_err(|&k| k)?;
         calls::plan(tree, sheet, self.flat.as_ref().expect("a flat tree"), from, to, room)
     }
+}
+
+/// What Step returns for a book in a layout, and what it leaves in the words for state, cost and node.
+fn step(layout: Layout, book: &[u32], state: u32, command: u32) -> (u32, [u32; 3]) {
+    let call = if layout == Layout::ByNode { raw::himm_step } else { raw::himm_step_by_command };
+    let [mut next, mut cost, mut node] = UNTOUCHED_STEP;
+    let number = unsafe { call(book.as_ptr(), book.len(), state, command, &mut next, &mut cost, &mut node) };
+    (number, [next, cost, node])
 }
 
 /// A call that puts bytes or words at the front of an output of so many: its answer, the length that it stores and all of the output are as
