@@ -1,5 +1,6 @@
 // The public calls for C on books by command (document 02, W-209), and the two turns. Each call that is lent a book stands here once more, its name
-// ending in _by_command: it takes and leaves books by command, and returns and stores what the call returns and stores for the same book by node.
+// ending in _by_command: it takes and leaves books by command, refuses what the call by node refuses, in the same order, and returns and stores
+// what that gives for the same book; where document 01 leaves a choice free, one that it allows.
 ghost use Rattle.definitions.specs.Open.{fresh, ladder, table};
 ghost use Rattle.definitions.specs.Calls.{OpenSays};
 ghost use Rattle.definitions.specs.Merge.{MergeSays};
