@@ -30,3 +30,8 @@ pub mod Imports
 pub mod Merges
 pub mod Tabled
 pub mod Walks
+pub mod Decided
+pub mod Pruned
+pub mod Simulated
+pub mod Unseen
+pub mod Swapped

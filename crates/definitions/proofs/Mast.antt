@@ -1,8 +1,8 @@
--- The mast book of document 01: its starred examples, by computing with the definitions; the claims of W-202, W-203, W-205 to W-207 and W-209 on it; and
+-- The mast book of document 01: its starred examples, by computing with the definitions; the claims of W-202, W-203, W-205 to W-207, W-209 and W-210 on it; and
 -- that an exit may end inside its machine. Assumes nothing.
-use mathlib.Core.Path.{_≡_, refl, _∙_}
+use mathlib.Core.Path.{_≡_, refl, sym, ap, _∙_}
 use mathlib.Core.Logic.{inl, inr}
-use mathlib.Core.Bool.{false}
+use mathlib.Core.Bool.{Bool, false}
 use mathlib.Core.Option.{Option, none, some}
 use mathlib.Core.List.{List, [], _∷_, _++_}
 use Prim.Native.Nat.{ℕ, zero, suc, _+_, _*_, _≤_, _<_}
@@ -14,26 +14,27 @@ use Rattle.definitions.specs.Basics.{iterate, joined, countBelow, anyOf,
 use Rattle.definitions.specs.Limits.{nodes, commands, mostWalkers}
 use Rattle.definitions.specs.Tree.{Tree, Transition, Sound, UsedNode, states, above, pathF, path, level, within}
 use Rattle.definitions.specs.Step.{enterF, enter, counting, look, climb, stepIn, step, acting, Moves, runBy, passes}
-use Rattle.definitions.specs.Costs.{LeastCost, ExitCost}
+use Rattle.definitions.specs.Costs.{LeastCost, exitBy, ExitCost}
 use Rattle.definitions.specs.Book.{word, transitionWord, under, encode, treeOf, WellFormed}
 use Rattle.definitions.specs.Sheet.{Rows, encodeRows}
 use Rattle.definitions.specs.Truth.{nodeExit, move}
 use Rattle.definitions.specs.Stream.{hold, operandLength, decode, readNext}
-use Rattle.definitions.specs.Edit.{firstHolding, refusals, refusal, single, withTransition, edited}
+use Rattle.definitions.specs.Edit.{firstHolding, refusals, refusal, single, without, withTransition, edited}
 use Rattle.definitions.specs.Load.{next, loadF, load, expected}
 use Rattle.definitions.specs.Open.{freshTree}
 use Rattle.definitions.specs.Answer.{Answer, gives, refuses, InOrder}
 use Rattle.definitions.specs.Calls.{Acts, Plan, GivesStep, StepSays, LoadAnswer, LoadSays}
 use Rattle.definitions.specs.Demand.{Bytes}
 use Rattle.definitions.specs.Import.{took, ImportSays, Placed}
-use Rattle.definitions.specs.Write.{writtenBegin, writtenAdd, writtenRefine, writtenArrow, writtenHold, writtenLeave, written}
+use Rattle.definitions.specs.Write.{arrowBytes, writtenBegin, writtenAdd, writtenRefine, writtenArrow, writtenHold, writtenLeave, written}
 use Rattle.definitions.specs.Walk.{inside, comesInside, handedRefusals, walkRefusals, OpenWalkersSay, WalkSays, AtMostInside}
 use Rattle.definitions.specs.ByCommand.{byCommand, byNode}
+use Rattle.definitions.specs.Replaced.{pruned, AlikeBut, andLeaving, SameExits}
 use Rattle.definitions.specs.Mast.{mastStream, clearing, mastAfter, mastTree, RefusedWith16, MastExamples}
-use Rattle.definitions.proofs.Options.{none-some, true-false}
+use Rattle.definitions.proofs.Options.{none-some, true-false, least-unique}
 use Rattle.definitions.proofs.Kept.{hold-released, expected-sound}
 use Rattle.definitions.proofs.Opened.{fresh-sound}
-use Rattle.definitions.proofs.Tests.{allBelow, allUnder, listed, accounted, boundsTest, capped, freshRows, blankMachine, blankNode}
+use Rattle.definitions.proofs.Tests.{allBelow, all-below, allUnder, listed, accounted, boundsTest, capped, freshRows, blankMachine, blankNode}
 use Rattle.definitions.proofs.Tests.{namedTest, chainTest, leftTest, endedTest, machineTest, reachedTest, nodeTest, rowsTest}
 use Rattle.definitions.proofs.Tests.{all-under, bound-least, bound-plan, bound-none, step-says}
 use Rattle.definitions.proofs.Tests.{tested-exit, tested-sheet, tested-refused}
@@ -45,6 +46,8 @@ use Rattle.definitions.proofs.Imports.{import-loads}
 use Rattle.definitions.proofs.Walks.{limit-kept}
 use Rattle.definitions.proofs.Turned.{command-transition, command-front, command-link}
 use Rattle.definitions.proofs.Either.{same-answers}
+use Rattle.definitions.proofs.Swapped.{sameNumber, same-number, sameTransition, sameNode, sameMachine, alikeTest, tested-alike}
+use Rattle.definitions.proofs.Unseen.{replaced-unseen}
 
 -- the stream that gives node 1 a transition to itself for command 2
 unfoldable pub looping : List ℕ
@@ -547,3 +550,149 @@ mast-by-command =
 pub mast-step-by-command : (answer : Answer) → StepSays (byNode (byCommand (encode mastTree))) 11 1 answer → gives (2 ∷ 3 ∷ 1 ∷ []) ≡ answer
 mast-step-by-command answer says =
     same-answers .steps 11 1 (encode mastTree) (gives (2 ∷ 3 ∷ 1 ∷ [])) answer (mast-examples .step-11-by-1) says .1
+
+-- ---- replaced unseen (document 02, W-210)
+
+-- the mast book where leaving machine 1 costs 3
+unfoldable pub chargedTree : Tree
+chargedTree = mastAfter (charging 1 3 ∷ [])
+
+-- The stream that makes a book alike but for what is below node 1: machine 5 with start node 23, from which every command leads to node 20 at cost 2;
+-- then as in machine 1, with another loop, and on to node 22, which holds machine 6 with node 30 and a held node 31. Leaving machine 5 costs 1.
+unfoldable pub swapping : List ℕ
+swapping =
+    0x13 ∷ 0x00 ∷ 0x01
+    ∷ 0x11 ∷ 0x00 ∷ 0x00 ∷ 0x01
+    ∷ 0x12 ∷ 0x00 ∷ 0x01 ∷ 0x05 ∷ 0x00 ∷ 0x17
+    ∷ 0x11 ∷ 0x05 ∷ 0x00 ∷ 0x14
+    ∷ 0x11 ∷ 0x05 ∷ 0x00 ∷ 0x15
+    ∷ 0x11 ∷ 0x05 ∷ 0x00 ∷ 0x16
+    ∷ 0x12 ∷ 0x00 ∷ 0x16 ∷ 0x06 ∷ 0x00 ∷ 0x1E
+    ∷ 0x11 ∷ 0x06 ∷ 0x00 ∷ 0x1F
+    ∷ 0x14 ∷ 0x00 ∷ 0x00 ∷ 0x00 ∷ 0x00 ∷ 0x01 ∷ 0x00 ∷ 0x05
+    ∷ 0x14 ∷ 0x00 ∷ 0x01 ∷ 0x01 ∷ 0x00 ∷ 0x02 ∷ 0x00 ∷ 0x03
+    ∷ 0x14 ∷ 0x00 ∷ 0x14 ∷ 0x01 ∷ 0x00 ∷ 0x14 ∷ 0x00 ∷ 0x09
+    ∷ 0x14 ∷ 0x00 ∷ 0x14 ∷ 0x02 ∷ 0x00 ∷ 0x15 ∷ 0x00 ∷ 0x04
+    ∷ 0x14 ∷ 0x00 ∷ 0x15 ∷ 0x05 ∷ 0x00 ∷ 0x16 ∷ 0x00 ∷ 0x07
+    ∷ 0x14 ∷ 0x00 ∷ 0x1E ∷ 0x03 ∷ 0x00 ∷ 0x1F ∷ 0x00 ∷ 0x06
+    ∷ 0x1A ∷ 0x00 ∷ 0x1F ∷ 0x01
+    ∷ 0x1B ∷ 0x05 ∷ 0x00 ∷ 0x01
+    ∷ 0x1B ∷ 0x06 ∷ 0x00 ∷ 0x02
+    ∷ joined commands (λ x. arrowBytes 23 x 20 2)
+
+unfoldable pub swapTree : Tree
+swapTree = mastAfter (swapping ∷ [])
+
+chargedRows : Rows
+chargedRows = rowsWith (8 ∷ 0 ∷ 12 ∷ []) (1 ∷ 0 ∷ 1 ∷ []) ((0, 0) ∷ (1, 5) ∷ (2, 15) ∷ []) ((1, 0) ∷ (2, 1) ∷ []) ((1, 0) ∷ (2, 1) ∷ [])
+
+swapRows : Rows
+swapRows =
+    record {
+      stale = λ m. false;
+      exit =
+          λ m x. listed ((0, getD (8 ∷ 0 ∷ 12 ∷ []) x 0) ∷ (5, getD (2 ∷ 6 ∷ 6 ∷ []) x 2) ∷ (6, 0) ∷ []) m;
+      last =
+          λ m x. listed ((0, getD (1 ∷ 0 ∷ 1 ∷ []) x 0) ∷ (5, getD (20 ∷ 21 ∷ 21 ∷ []) x 20) ∷ (6, 30) ∷ []) m;
+      cost = listed ((0, 0) ∷ (1, 5) ∷ (2, 15) ∷ (23, 0) ∷ (20, 2) ∷ (21, 6) ∷ (22, 13) ∷ (30, 0) ∷ []);
+      before = listed ((1, 0) ∷ (2, 1) ∷ (20, 23) ∷ (21, 20) ∷ (22, 21) ∷ []);
+      by = listed ((1, 0) ∷ (2, 1) ∷ (20, 0) ∷ (21, 2) ∷ (22, 5) ∷ []);
+    }
+
+-- to open this is to open both books
+swapping-books : Tree
+unfolding computing chargedTree swapping swapTree joined without within anyOf
+swapping-books = freshTree
+
+charged-sound : Sound chargedTree
+unfolding chargedTree
+charged-sound = after-sound (charging 1 3 ∷ []) (omega arith)
+
+swap-sound : Sound swapTree
+unfolding swapping-books
+swap-sound = after-sound (swapping ∷ []) (all-under 256 swapping refl, tt)
+
+-- they are alike but for what is below node 1
+swap-alike : AlikeBut chargedTree swapTree 1 1 5
+unfolding swapping-books pruned alikeTest sameNode sameMachine sameNumber sameTransition
+swap-alike = record { alike = tested-alike charged-sound swap-sound 1 refl; refined = refl; refined-too = refl }
+
+-- an exit cost is the one of the rows
+exit-is : (t : Tree) (m x : ℕ) (o p : Option ℕ) → ExitCost t m x o → ExitCost t m x p → o ≡ p
+exit-is t m x o p one two =
+    least-unique (λ c. (xs : List ℕ) × (exitBy t m x xs ≡ some c)) (λ c. (xs : List ℕ) × (exitBy t m x xs ≡ some c)) (λ c e. e) (λ c e. e) o p one two
+
+-- and the exit costs 0, 4, 4, 0, .. plus 3 are 2, 6, 6, 2, .. plus 1
+swap-exits : SameExits chargedTree swapTree 1 5
+unfolding swapping-books chargedRows swapRows sameNumber
+swap-exits x range o p one two =
+    let a : o ≡ freshRows chargedRows .exit 1 x =
+    exit-is chargedTree 1 x o (freshRows chargedRows .exit 1 x) one
+    (tested-exit chargedTree charged-sound chargedRows refl 1 10 x (freshRows chargedRows .exit 1 x) refl range refl)
+    in
+    let b : p ≡ freshRows swapRows .exit 5 x =
+    exit-is swapTree 5 x p (freshRows swapRows .exit 5 x) two (tested-exit swapTree swap-sound swapRows refl 5 23 x (freshRows swapRows .exit 5 x) refl range refl)
+    in
+    ap (andLeaving chargedTree 1) a ∙ same-number _ _ (all-below commands sums refl x range) ∙ sym (ap (andLeaving swapTree 5) b)
+  where
+    sums : ℕ → Bool
+    sums x = sameNumber (andLeaving chargedTree 1 (freshRows chargedRows .exit 1 x)) (andLeaving swapTree 5 (freshRows swapRows .exit 5 x))
+
+-- from state 0 where leaving machine 1 costs 3
+charged-0 : ℕ → Option ℕ
+charged-0 = listed ((0, 0) ∷ (10, 5) ∷ (11, 9) ∷ (2, 15) ∷ [])
+
+charged-cost : LeastCost chargedTree 0 2 (some 15)
+unfolding swapping-books charged-0
+charged-cost = bound-least chargedTree charged-sound charged-0 refl 0 (omega arith) refl 2 15 (0 ∷ 2 ∷ 1 ∷ []) refl refl
+
+-- so from 0 to 2 the least cost is the same
+pub swap-unseen : LeastCost swapTree 0 2 (some 15)
+unfolding swapping-books
+swap-unseen =
+    replaced-unseen chargedTree swapTree 1 1 5 charged-sound swap-sound swap-alike swap-exits .costs 0 2 (refl, refl) (refl, refl) (some 15) .0 charged-cost
+
+-- without the transition of 10 for 1 the mast book is still alike but for what is below node 1, and every exit cost but that for command 1 is the
+-- same; the least cost from 0 to 2 is another
+unfoldable pub missedTree : Tree
+missedTree = mastAfter (clearing 10 1 ∷ [])
+
+missedRows : Rows
+missedRows =
+    record {
+      stale = λ m. false;
+      exit = each ((λ x. getD (5 ∷ 0 ∷ 8 ∷ []) x 0) ∷ (λ x. getD (0 ∷ 0 ∷ 4 ∷ []) x 0) ∷ []);
+      last = each ((λ x. getD (1 ∷ 0 ∷ 2 ∷ []) x 0) ∷ (λ x. getD (10 ∷ 10 ∷ 11 ∷ []) x 10) ∷ []);
+      cost = listed ((0, 0) ∷ (1, 5) ∷ (2, 8) ∷ (10, 0) ∷ (11, 4) ∷ []);
+      before = listed ((1, 0) ∷ (2, 1) ∷ (11, 10) ∷ []);
+      by = listed ((1, 0) ∷ (2, 1) ∷ (11, 2) ∷ []);
+    }
+
+missed-sound : Sound missedTree
+unfolding missedTree
+missed-sound = after-sound (clearing 10 1 ∷ []) (omega arith)
+
+pub missed-alike : AlikeBut mastTree missedTree 1 1 1
+unfolding computing missedTree within anyOf pruned alikeTest sameNode sameMachine sameNumber sameTransition
+missed-alike = record { alike = tested-alike sound missed-sound 1 refl; refined = refl; refined-too = refl }
+
+pub missed-exits : (x : ℕ) → x < commands → (x ≡ 1 → ⊥) → (o p : Option ℕ) → ExitCost mastTree 1 x o → ExitCost missedTree 1 x p
+    → andLeaving mastTree 1 o ≡ andLeaving missedTree 1 p
+unfolding computing missedTree missedRows
+missed-exits x range other o p one two =
+    let a : o ≡ freshRows mastRows .exit 1 x =
+    exit-is mastTree 1 x o (freshRows mastRows .exit 1 x) one (tested-exit mastTree sound mastRows refl 1 10 x (freshRows mastRows .exit 1 x) refl range refl)
+    in
+    let b : p ≡ freshRows missedRows .exit 1 x =
+    exit-is missedTree 1 x p (freshRows missedRows .exit 1 x) two (tested-exit missedTree missed-sound missedRows refl 1 10 x (freshRows missedRows .exit 1 x) refl range refl)
+    in
+    ap (andLeaving mastTree 1) a ∙ go x other ∙ sym (ap (andLeaving missedTree 1) b)
+  where
+    go : (x : ℕ) → (x ≡ 1 → ⊥) → andLeaving mastTree 1 (freshRows mastRows .exit 1 x) ≡ andLeaving missedTree 1 (freshRows missedRows .exit 1 x)
+    go zero other = refl
+    go (suc zero) other = absurd (other refl)
+    go (suc (suc x)) other = refl
+
+pub missed-cost : LeastCost mastTree 0 2 (some 12) × LeastCost missedTree 0 2 (some 8)
+unfolding missedTree
+missed-cost = (mast-examples .from-0-to-2 .least, mast-examples .cleared-10-1)

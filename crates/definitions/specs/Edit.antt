@@ -97,19 +97,24 @@ single m n =
 abbrev pub heldWithin : Tree → ℕ → ℕ → Bool
 heldWithin t n m = option false (within t n) (t .holder m)
 
+-- the tree where the nodes that pass the first test and the machines that pass the second are no longer in use, with nothing in their records
+abbrev pub emptied : Tree → (ℕ → Bool) → (ℕ → Bool) → Tree
+emptied t p q =
+    record {
+      root = t .root;
+      owner = λ k. unless (p k) (t .owner k);
+      below = λ k. unless (p k) (t .below k);
+      start = λ m. unless (q m) (t .start m);
+      holder = λ m. unless (q m) (t .holder m);
+      transition = λ k x. unless (p k) (t .transition k x);
+      hold = λ k. cond (p k) 0 (t .hold k);
+      leave = λ m. cond (q m) 0 (t .leave m);
+    }
+
 -- the tree without node n, all below it, their holds and leaving charges (document 02, W-205, W-207), and the transitions into it
 unfoldable pub without : Tree → ℕ → Tree
 without t n =
-    record {
-      root = t .root;
-      owner = λ k. unless (within t n k) (t .owner k);
-      below = λ k. unless (within t n k) (t .below k);
-      start = λ m. unless (heldWithin t n m) (t .start m);
-      holder = λ m. unless (heldWithin t n m) (t .holder m);
-      transition = λ k x. unless (within t n k) (unlessInto (λ v. eqb v n) (t .transition k x));
-      hold = λ k. cond (within t n k) 0 (t .hold k);
-      leave = λ m. cond (heldWithin t n m) 0 (t .leave m);
-    }
+    withTransitions (emptied t (within t n) (heldWithin t n)) (λ k x. unless (within t n k) (unlessInto (λ v. eqb v n) (t .transition k x)))
 
 -- the tree with o as the transition of node n for x
 unfoldable pub withTransition : Tree → ℕ → ℕ → Option Transition → Tree

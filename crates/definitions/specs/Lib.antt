@@ -23,3 +23,4 @@ pub mod Import
 pub mod Walk
 pub mod Ladder
 pub mod ByCommand
+pub mod Replaced
