@@ -1,5 +1,5 @@
 -- Whether there is a least cost, and which, is decided: of lists of commands inside a machine that end where something is asked. Assumes nothing.
-use mathlib.Core.Path.{_≡_, refl, sym, _∙_, ap, subst}
+use mathlib.Core.Path.{_≡_, refl, _∙_, ap, subst}
 use mathlib.Core.Logic.{_⊎_, inl, inr, ⊎-elim}
 use mathlib.Core.Option.{Option, none, some}
 use mathlib.Core.List.{List, [], _∷_}
@@ -11,11 +11,10 @@ use Rattle.definitions.specs.Limits.{nodes, commands}
 use Rattle.definitions.specs.Tree.{Tree, Sound}
 use Rattle.definitions.specs.Step.{startState, Climb, found, passed, climb, Arrival, stepIn, runIn}
 use Rattle.definitions.specs.Costs.{unfound, exitBy}
-use Rattle.definitions.proofs.Options.{present, none-some, some-same, less-or-not}
+use Rattle.definitions.proofs.Options.{none-some, some-same, less-or-not}
 use Rattle.definitions.proofs.Runs.{run-first, run-cons, run-nil}
-use Rattle.definitions.proofs.Simple.{StateIn, simple-run, simple-length, statesIn, statesIn-states, states-bound, step-stepped, start-inside}
+use Rattle.definitions.proofs.Simple.{StateIn, simple-run, simple-length, statesIn-states, states-bound, step-range, start-inside}
 use Rattle.definitions.proofs.Exits.{exit-parts, parts-exit}
-use Rattle.definitions.proofs.Path.{climb-found}
 
 -- ---- least costs put together
 
@@ -105,10 +104,6 @@ module _ (t : Tree) (top : ℕ) (final : ℕ → Option ℕ) where
       }
 
   module _ (sound : Sound t) where
-    -- only commands lead anywhere
-    step-range : (s x : ℕ) {a : Arrival} → stepIn t top s x ≡ some a → x < commands
-    step-range s x e = climb-found sound top s x (step-stepped t top s x e .finds) .range
-
     -- a command and then a short list
     abbrev Longer : ℕ → ℕ → ℕ → Type 0
     Longer k s c = (x : ℕ) × (x < commands) × ((a : Arrival) × (stepIn t top s x ≡ some a) × (d : ℕ) × Short k (a .node) d × (a .cost + d ≡ c))
@@ -155,7 +150,7 @@ module _ (t : Tree) (top : ℕ) (final : ℕ → Option ℕ) where
         back c ([], small, ends) = inl ([], omega arith, ends)
         back c (x ∷ xs, small, ends) =
             let (a, e, d, rest, same) = ending-first s x xs ends in
-            inr (x, step-range s x e, (a, e, d, (xs, omega (arith, small), rest), same))
+            inr (x, step-range sound top s x e .0, (a, e, d, (xs, omega (arith, small), rest), same))
 
     -- so all lists are, since repeats can be dropped
     pub ending-decided : {s : ℕ} → StateIn t top s → Decided (λ c. (xs : List ℕ) × Ending s xs c)

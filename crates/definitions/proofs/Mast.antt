@@ -14,7 +14,7 @@ use Rattle.definitions.specs.Basics.{iterate, joined, countBelow, anyOf,
 use Rattle.definitions.specs.Limits.{nodes, commands, mostWalkers}
 use Rattle.definitions.specs.Tree.{Tree, Transition, Sound, UsedNode, states, above, pathF, path, level, within}
 use Rattle.definitions.specs.Step.{enterF, enter, counting, look, climb, stepIn, step, acting, Moves, runBy, passes}
-use Rattle.definitions.specs.Costs.{LeastCost, exitBy, ExitCost}
+use Rattle.definitions.specs.Costs.{LeastCost, ExitCost}
 use Rattle.definitions.specs.Book.{word, transitionWord, under, encode, treeOf, WellFormed}
 use Rattle.definitions.specs.Sheet.{Rows, encodeRows}
 use Rattle.definitions.specs.Truth.{nodeExit, move}
@@ -31,7 +31,7 @@ use Rattle.definitions.specs.Walk.{inside, comesInside, handedRefusals, 
 use Rattle.definitions.specs.ByCommand.{byCommand, byNode}
 use Rattle.definitions.specs.Replaced.{pruned, AlikeBut, andLeaving, SameExits}
 use Rattle.definitions.specs.Mast.{mastStream, clearing, mastAfter, mastTree, RefusedWith16, MastExamples}
-use Rattle.definitions.proofs.Options.{none-some, true-false, least-unique}
+use Rattle.definitions.proofs.Options.{none-some, true-false, least-one}
 use Rattle.definitions.proofs.Kept.{hold-released, expected-sound}
 use Rattle.definitions.proofs.Opened.{fresh-sound}
 use Rattle.definitions.proofs.Tests.{allBelow, all-below, allUnder, listed, accounted, boundsTest, capped, freshRows, blankMachine, blankNode}
@@ -617,21 +617,16 @@ swap-alike : AlikeBut chargedTree swapTree 1 1 5
 unfolding swapping-books pruned alikeTest sameNode sameMachine sameNumber sameTransition
 swap-alike = record { alike = tested-alike charged-sound swap-sound 1 refl; refined = refl; refined-too = refl }
 
--- an exit cost is the one of the rows
-exit-is : (t : Tree) (m x : ℕ) (o p : Option ℕ) → ExitCost t m x o → ExitCost t m x p → o ≡ p
-exit-is t m x o p one two =
-    least-unique (λ c. (xs : List ℕ) × (exitBy t m x xs ≡ some c)) (λ c. (xs : List ℕ) × (exitBy t m x xs ≡ some c)) (λ c e. e) (λ c e. e) o p one two
-
 -- and the exit costs 0, 4, 4, 0, .. plus 3 are 2, 6, 6, 2, .. plus 1
 swap-exits : SameExits chargedTree swapTree 1 5
 unfolding swapping-books chargedRows swapRows sameNumber
 swap-exits x range o p one two =
     let a : o ≡ freshRows chargedRows .exit 1 x =
-    exit-is chargedTree 1 x o (freshRows chargedRows .exit 1 x) one
+    least-one _ o (freshRows chargedRows .exit 1 x) one
     (tested-exit chargedTree charged-sound chargedRows refl 1 10 x (freshRows chargedRows .exit 1 x) refl range refl)
     in
     let b : p ≡ freshRows swapRows .exit 5 x =
-    exit-is swapTree 5 x p (freshRows swapRows .exit 5 x) two (tested-exit swapTree swap-sound swapRows refl 5 23 x (freshRows swapRows .exit 5 x) refl range refl)
+    least-one _ p (freshRows swapRows .exit 5 x) two (tested-exit swapTree swap-sound swapRows refl 5 23 x (freshRows swapRows .exit 5 x) refl range refl)
     in
     ap (andLeaving chargedTree 1) a ∙ same-number _ _ (all-below commands sums refl x range) ∙ sym (ap (andLeaving swapTree 5) b)
   where
@@ -681,10 +676,10 @@ pub missed-exits : (x : ℕ) → x < commands → (x ≡ 1 → ⊥) → (o p : O
 unfolding computing missedTree missedRows
 missed-exits x range other o p one two =
     let a : o ≡ freshRows mastRows .exit 1 x =
-    exit-is mastTree 1 x o (freshRows mastRows .exit 1 x) one (tested-exit mastTree sound mastRows refl 1 10 x (freshRows mastRows .exit 1 x) refl range refl)
+    least-one _ o (freshRows mastRows .exit 1 x) one (tested-exit mastTree sound mastRows refl 1 10 x (freshRows mastRows .exit 1 x) refl range refl)
     in
     let b : p ≡ freshRows missedRows .exit 1 x =
-    exit-is missedTree 1 x p (freshRows missedRows .exit 1 x) two (tested-exit missedTree missed-sound missedRows refl 1 10 x (freshRows missedRows .exit 1 x) refl range refl)
+    least-one _ p (freshRows missedRows .exit 1 x) two (tested-exit missedTree missed-sound missedRows refl 1 10 x (freshRows missedRows .exit 1 x) refl range refl)
     in
     ap (andLeaving mastTree 1) a ∙ go x other ∙ sym (ap (andLeaving missedTree 1) b)
   where

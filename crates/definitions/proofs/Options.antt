@@ -101,3 +101,7 @@ least-unique P Q to from none (some d) la lb = absurd (la d (from d (lb .0)))
 least-unique P Q to from (some c) none la lb = absurd (lb c (to c (la .0)))
 least-unique P Q to from (some c) (some d) la lb =
     ap {B = Option ℕ} some (omega (arith, la .1 d (from d (lb .0)), lb .1 c (to c (la .0))))
+
+-- there is one least number at most
+pub least-one : (P : ℕ → Type 0) (a b : Option ℕ) → Least P a → Least P b → a ≡ b
+least-one P = least-unique P P (λ c p. p) (λ c p. p)

@@ -1,21 +1,19 @@
 -- Two trees that are alike but for what is below one node: what they share. Assumes nothing.
 use mathlib.Core.Path.{_≡_, refl, sym, _∙_, ap, ap₂, subst}
 use mathlib.Core.Logic.{_⊎_, inl, inr, ⊎-elim}
-use mathlib.Core.Bool.{Bool, true, false, cond, not, _&&_, _||_}
+use mathlib.Core.Bool.{Bool, true, false, cond, not, _&&_, _||_, or-false}
 use mathlib.Core.Option.{Option, none, some}
-use mathlib.Core.List.{List, [], _∷_}
-use Prim.Native.Nat.{ℕ, zero, suc, _+_, _<_}
-use native.Mathlib.Omega.{arith}
+use Prim.Native.Nat.{ℕ}
 use lib.Dec.{eqb}
-use borrow.Author.Tests.{eq-eqb, ne-eqb}
+use borrow.Author.Tests.{ne-eqb}
 use Rattle.definitions.specs.Basics.{option, unless, put, anyOf}
-use Rattle.definitions.specs.Tree.{Tree, Transition, Sound, onHold, path, within, unlessInto}
-use Rattle.definitions.specs.Step.{enter, counting, Climb, found, passed, past, climb, startState}
+use Rattle.definitions.specs.Tree.{Tree, Transition, Sound, onHold, within, unlessInto}
+use Rattle.definitions.specs.Step.{enter, counting, found, past, climb}
 use Rattle.definitions.specs.Edit.{heldWithin}
-use Rattle.definitions.proofs.Options.{bind-some, unless-some, none-some, some-same, equal-or-not, put-other}
-use Rattle.definitions.proofs.Path.{Deep, at-root, under, deep, root-holder, path-on, path-root, Inside, own, deeper, climb-own, climb-top, climb-on, counting-is, counting-owned, passed-found, past-found}
+use Rattle.definitions.proofs.Options.{unless-some, some-same, equal-or-not, put-other}
+use Rattle.definitions.proofs.Path.{Deep, at-root, under, root-holder, path-on, path-root, Inside, own, deeper, climb-own, climb-top, climb-on, counting-owned, passed-found, past-found}
 use Rattle.definitions.proofs.Path.{Enters, plain, down, enter-plain, enter-down}
-use Rattle.definitions.specs.Replaced.{beneath, pruned, AlikeBut}
+use Rattle.definitions.specs.Replaced.{beneath, pruned}
 
 -- node d is in use and no node above it is n: it is not below n, but may be n itself
 pub data Out (t : Tree) (n : ℕ) : ℕ → Type 0 where
@@ -35,10 +33,6 @@ out-sibling {t} {v = v} (rooted {p = q} o e) mine f =
 out-sibling {t} {v = v} (upper {p = q} o hold other up) mine f =
     let there : t .owner v ≡ some q = cc in
     upper there hold other up
-
-or-false : (b : Bool) → (b || false) ≡ b
-or-false true = refl
-or-false false = refl
 
 and-not : (b : Bool) → (b && not b) ≡ false
 and-not true = refl

@@ -12,7 +12,7 @@ use lib.Dec.{eqb}
 use lib.ListN.{length}
 use borrow.Author.Tests.{eq-eqb, ne-eqb}
 use Rattle.definitions.specs.Basics.{option, isSome, isAt, countBelow, anyOf, All, Distinct}
-use Rattle.definitions.specs.Limits.{nodes, costs, levels, largestStepCost, largestPlanCost}
+use Rattle.definitions.specs.Limits.{nodes, commands, costs, levels, largestStepCost, largestPlanCost}
 use Rattle.definitions.specs.Tree.{Tree, Transition, Sound, isState, states, above, path, pathF, level, over}
 use Rattle.definitions.specs.Step.{enter, startState, counting, leavingOf, Climb, found, passed, past, firstOf, look, climb, Arrival, follow, stepIn, step, runIn, Moves, passes}
 use Rattle.definitions.specs.Costs.{LeastCost, ExitCost}
@@ -270,6 +270,12 @@ step-state {t} sound top s x e =
     let way = step-stepped t top s x e in
     let target = climb-found sound top s x (way .finds) .target-owner in
     enters-state sound (enter-enters sound target (way .enters)) target
+
+-- a step is by a command, and leads to a node in range
+pub step-range : {t : Tree} → Sound t → (top n x : ℕ) {a : Arrival} → stepIn t top n x ≡ some a → (x < commands) × (a .node < nodes)
+step-range {t} s top n x {a} e =
+    let (p, owned, plain) = step-state s top n x e in
+    (climb-found s top n x (step-stepped t top n x e .finds) .range, s .node-range (a .node) p owned)
 
 -- one command costs at most 8 × 65,535
 pub step-cost : {t : Tree} → Sound t → (top s x : ℕ) {a : Arrival} → stepIn t top s x ≡ some a → a .cost ≤ largestStepCost

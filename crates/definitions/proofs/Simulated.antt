@@ -1,26 +1,25 @@
 -- Of two trees that are alike but for what is below one node, and are left at the same costs, one follows the other: while the first is inside the
 -- node the second waits where the node is entered, and leaves by a cheapest exit of its own when the first does. Assumes nothing.
-use mathlib.Core.Path.{_≡_, refl, sym, _∙_, ap, ap₂, subst}
-use mathlib.Core.Logic.{_⊎_, inl, inr, ⊎-elim}
+use mathlib.Core.Path.{_≡_, refl, sym, _∙_, ap, subst}
+use mathlib.Core.Logic.{_⊎_, ⊎-elim}
 use mathlib.Core.Option.{Option, none, some}
 use mathlib.Core.List.{List, [], _∷_, _++_}
 use Prim.Native.Nat.{ℕ, _+_, _≤_, _<_}
 use native.Mathlib.Omega.{arith}
-use Rattle.definitions.specs.Basics.{_>>=_}
 use Rattle.definitions.specs.Limits.{commands}
 use Rattle.definitions.specs.Tree.{Tree, Sound}
 use Rattle.definitions.specs.Step.{enter, startState, Climb, found, passed, past, climb, Arrival, follow, stepIn, runIn}
 use Rattle.definitions.specs.Costs.{exitBy, ExitCost}
-use Rattle.definitions.proofs.Options.{bind-some, none-some, some-same}
-use Rattle.definitions.proofs.Path.{deep, Enters, enters, enters-enter, enter-enters, enter-down, Inside, own, climb-found, past-found}
+use Rattle.definitions.proofs.Options.{none-some, some-same}
+use Rattle.definitions.proofs.Path.{deep, enters, enters-enter, enter-enters, enter-down, Inside, own, climb-found, past-found}
 use Rattle.definitions.proofs.Runs.{onto, run-first, run-cons, run-nil, run-join}
 use Rattle.definitions.proofs.Inside.{inside-apart, climb-wider, beyond}
 use Rattle.definitions.proofs.Realize.{run-wider}
 use Rattle.definitions.proofs.Exits.{exit-parts, parts-exit}
-use Rattle.definitions.proofs.Simple.{StateIn, inside-root, start-inside, run-states, step-stepped}
-use Rattle.definitions.specs.Replaced.{pruned, AlikeBut, andLeaving, SameExits}
-use Rattle.definitions.proofs.Decided.{Decided, exit-decided}
-use Rattle.definitions.proofs.Pruned.{Out, out-owner, out-or-inside, out-found, out-inside, out-owned, out-too, out-climb, EnterBoth, enter-both}
+use Rattle.definitions.proofs.Simple.{inside-root, start-inside, run-states, step-stepped}
+use Rattle.definitions.specs.Replaced.{AlikeBut, SameExits}
+use Rattle.definitions.proofs.Decided.{exit-decided}
+use Rattle.definitions.proofs.Pruned.{Out, out-owner, out-or-inside, out-found, out-inside, out-climb, enter-both}
 
 -- a list of u's commands from r to e costs at most c
 pub record Gets (u : Tree) (r e c : ℕ) : Type 0 where

@@ -1,18 +1,18 @@
 -- Whether two trees are alike but for what is below a node, by one computed test. Assumes nothing.
 use mathlib.Core.Path.{_≡_, refl, sym, _∙_, ap, ap₂}
-use mathlib.Core.Logic.{_⊎_, inl, inr, ⊎-elim}
+use mathlib.Core.Logic.{_⊎_, ⊎-elim}
 use mathlib.Core.Bool.{Bool, true, false, cond, _&&_}
 use mathlib.Core.Option.{Option, none, some}
 use Prim.Native.Nat.{ℕ, _≤_, _<_}
 use native.Mathlib.Omega.{arith}
 use lib.Dec.{eqb}
 use borrow.Author.Tests.{eqb-true}
-use Rattle.definitions.specs.Basics.{unless, put}
+use Rattle.definitions.specs.Basics.{unless}
 use Rattle.definitions.specs.Limits.{machines, nodes, commands}
 use Rattle.definitions.specs.Tree.{Tree, Transition, Sound}
 use Rattle.definitions.specs.Edit.{heldWithin}
 use Rattle.definitions.specs.Replaced.{beneath, pruned}
-use Rattle.definitions.proofs.Options.{none-some, true-false, and-true, less-or-not}
+use Rattle.definitions.proofs.Options.{true-false, and-true, less-or-not}
 use Rattle.definitions.proofs.Words.{same-tree, unused-below, unused-hold, unused-transition, unused-holder}
 use Rattle.definitions.proofs.Lists.{no-value}
 use Rattle.definitions.proofs.Tests.{allBelow, all-below}

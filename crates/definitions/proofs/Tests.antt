@@ -24,12 +24,12 @@ use Rattle.definitions.specs.Calls.{StepSays, Plan, PlanSays}
 use Rattle.definitions.proofs.Options.{bind-some, none-some, some-same, true-false, decided, equal-or-not, and-true}
 use Rattle.definitions.proofs.Options.{isAt-true, isSome-true, isSome-false}
 use Rattle.definitions.proofs.Lists.{no-value}
-use Rattle.definitions.proofs.Path.{counting-range, climb-found}
+use Rattle.definitions.proofs.Path.{counting-range}
 use Rattle.definitions.proofs.Runs.{Bounded, bounded-run}
 use Rattle.definitions.proofs.Local.{Relaxed, Attained, move-parts}
 use Rattle.definitions.proofs.LocalTruth.{local-true}
 use Rattle.definitions.proofs.Answers.{StepOn, step-past}
-use Rattle.definitions.proofs.Simple.{step-stepped, step-state}
+use Rattle.definitions.proofs.Simple.{step-range}
 use Rattle.definitions.proofs.Words.{under-some, encode-length, treeOf-encode, encode-well-formed}
 use Rattle.definitions.proofs.Words.{encodeRows-length, InRange, words-marks, rowsOf-encodeRows}
 
@@ -122,12 +122,6 @@ accounted-true f bound n c x {a} e step =
 -- whether every command from a node with a bound leads, if anywhere, to a node whose bound is at most that one plus the cost
 unfoldable pub boundsTest : Tree → (ℕ → Option ℕ) → Bool
 boundsTest t bound = allBelow nodes λ n. ifThere (bound n) λ c. allBelow commands (accounted (step t) bound n c)
-
--- a step is by a command, and leads to a node in range
-step-range : {t : Tree} → Sound t → (top n x : ℕ) {a : Arrival} → stepIn t top n x ≡ some a → (x < commands) × (a .node < nodes)
-step-range {t} s top n x {a} e =
-    let (p, own, plain) = step-state s top n x e in
-    (climb-found s top n x (step-stepped t top n x e .finds) .range, s .node-range (a .node) p own)
 
 module _ (t : Tree) (s : Sound t) (bound : ℕ → Option ℕ) (test : boundsTest t bound ≡ true) where
   -- no command from a node with a bound leads to one with a larger bound than that and its cost

@@ -1,28 +1,28 @@
 -- W-210's claim: what is below a node may be replaced unseen. Assumes nothing.
-use mathlib.Core.Path.{_≡_, refl, sym, _∙_, ap, subst}
-use mathlib.Core.Logic.{_⊎_, inl, inr, ⊎-elim}
-use mathlib.Core.Bool.{Bool, true, false, not, or-true, _||_}
+use mathlib.Core.Path.{_≡_, sym, _∙_, ap, subst}
+use mathlib.Core.Logic.{_⊎_, ⊎-elim}
+use mathlib.Core.Bool.{true, false, not, or-true}
 use mathlib.Core.Option.{Option, none, some}
-use mathlib.Core.List.{List, [], _∷_}
-use Prim.Native.Nat.{ℕ, _+_, _≤_, _<_}
+use mathlib.Core.List.{List}
+use Prim.Native.Nat.{ℕ, _≤_, _<_}
 use native.Mathlib.Omega.{arith}
 use lib.Dec.{eqb}
 use borrow.Author.Tests.{ne-eqb, not-true}
-use Rattle.definitions.specs.Basics.{option, isSome, anyOf}
-use Rattle.definitions.specs.Tree.{Tree, Sound, isState, above, pathF, path, within}
-use Rattle.definitions.specs.Step.{Arrival, Moves}
+use Rattle.definitions.specs.Basics.{isSome, anyOf}
+use Rattle.definitions.specs.Tree.{Tree, Sound, within}
+use Rattle.definitions.specs.Step.{Moves}
 use Rattle.definitions.specs.Limits.{commands}
-use Rattle.definitions.specs.Costs.{LeastCost, exitBy, ExitCost}
+use Rattle.definitions.specs.Costs.{LeastCost, ExitCost}
 use Rattle.definitions.specs.Book.{treeOf}
-use Rattle.definitions.specs.Sheet.{Rows, rowsOf}
+use Rattle.definitions.specs.Sheet.{rowsOf}
 use Rattle.definitions.specs.Truth.{TrueSheet}
-use Rattle.definitions.proofs.Options.{and-true, isSome-true, isSome-false, true-false, none-some, least-unique}
+use Rattle.definitions.proofs.Options.{and-true, isSome-true, isSome-false, true-false, none-some, least-one}
 use Rattle.definitions.proofs.Path.{deep, path-on, Inside, own, deeper}
 use Rattle.definitions.proofs.Simple.{state-test}
 use Rattle.definitions.proofs.Commands.{within-self}
-use Rattle.definitions.specs.Replaced.{AlikeBut, andLeaving, SameExits, Outside, Unseen, ReplacedUnseen, BooksUnseen, SheetsUnseen}
+use Rattle.definitions.specs.Replaced.{AlikeBut, andLeaving, SameExits, Outside, ReplacedUnseen, BooksUnseen, SheetsUnseen}
 use Rattle.definitions.proofs.Pruned.{Out, out-owner, out-within, out-or-inside, out-owned, out-too, out-below}
-use Rattle.definitions.proofs.Simulated.{Gets, follows}
+use Rattle.definitions.proofs.Simulated.{follows}
 
 -- what is inside the machine below n is within n
 inside-within : {t : Tree} → Sound t → {n m d : ℕ} → t .below n ≡ some m → Inside t m d → within t n d ≡ true
@@ -98,9 +98,7 @@ books-unseen first second n m k formed formed-too but exits = replaced-unseen (t
 -- a true sheet has the exit costs of an unmarked machine
 sheet-exit : {t : Tree} {sheet : List ℕ} → TrueSheet t sheet → {m s : ℕ} → t .start m ≡ some s → rowsOf sheet .stale m ≡ false → (x : ℕ) → x < commands → (o : Option ℕ)
     → ExitCost t m x o → o ≡ rowsOf sheet .exit m x
-sheet-exit {t} {sheet} true-sheet {m} {s} used full x range o cost =
-    least-unique (λ c. (xs : List ℕ) × (exitBy t m x xs ≡ some c)) (λ c. (xs : List ℕ) × (exitBy t m x xs ≡ some c)) (λ c p. p) (λ c p. p) o (rowsOf sheet .exit m x) cost
-    (true-sheet .rows .filled m s used full .exit x range)
+sheet-exit {t} {sheet} true-sheet {m} {s} used full x range o cost = least-one _ o (rowsOf sheet .exit m x) cost (true-sheet .rows .filled m s used full .exit x range)
 
 pub sheets-unseen : SheetsUnseen
 sheets-unseen first second sheet sheet-too n m k formed formed-too but true-sheet true-too full full-too words =

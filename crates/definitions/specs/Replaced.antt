@@ -11,7 +11,7 @@ use Rattle.definitions.specs.Tree.{Tree, withBelow, Sound, isState, with
 use Rattle.definitions.specs.Edit.{heldWithin, emptied}
 use Rattle.definitions.specs.Costs.{LeastCost, ExitCost}
 use Rattle.definitions.specs.Book.{treeOf, WellFormed}
-use Rattle.definitions.specs.Sheet.{Rows, rowsOf}
+use Rattle.definitions.specs.Sheet.{rowsOf}
 use Rattle.definitions.specs.Truth.{TrueSheet}
 
 -- whether node d is below node n
