@@ -94,8 +94,8 @@ climbs {t} s {top} {n} x (own e) = climbs_top x (counting t n x) refl e
 climbs {t} s {top} {n} x (deeper e other hold inner) = climbs_on s x (counting t n x) refl e other hold (climbs s x inner)
 
 -- what a climb finds inside top leads inside top
-found_by : {t : Tree} → Sound t → {top n : ℕ} (x : ℕ) {k : Climb} → Climbs t top x n k → Inside t top n → {u v c : ℕ} → k ≡ found u v c → Inside t top v
-found_by {t} s {top} {n} x (finds a has at) i {u} {v} e =
+found_by : {t : Tree} → Sound t → {top : ℕ} (x : ℕ) {n : ℕ} {k : Climb} → Climbs t top x n k → Inside t top n → {u v c : ℕ} → k ≡ found u v c → Inside t top v
+found_by {t} s {top} x {n} (finds a has at) i {u} {v} e =
     let (m, o) = inside_owner i in
     let target : a.target ≡ v = cc in
     inside_sibling i o (subst (λ (w : ℕ). t.owner w ≡ some m) target (counting_owned s n x a has o))
@@ -125,15 +125,15 @@ past_beyond j l up (found u v c) = refl
 past_beyond j l up (passed c) = past_past j (c + l) up ∙ ap (λ (d : ℕ). past d up) (sym (add_assoc j c l))
 
 -- a climb from a node inside b, which node h inside top holds, seen from top
-climb_wider_by : {t : Tree} → Sound t → {top b h n : ℕ} (x : ℕ) {k : Climb} → t.holder b ≡ some h → Inside t top h → Inside t b n → Climbs t b x n k
+climb_wider_by : {t : Tree} → Sound t → {top b h : ℕ} (x : ℕ) {n : ℕ} {k : Climb} → t.holder b ≡ some h → Inside t top h → Inside t b n → Climbs t b x n k
     → climb t top n x ≡ beyond (t.leave b) (climb t top h x) k
-climb_wider_by {t} s {top} {b} {h} {n} x hold upper i (finds a has at) = climb_own t top n x a has ∙ sym (ap (beyond (t.leave b) (climb t top h x)) at)
-climb_wider_by {t} s {top} {b} {h} {n} x hold upper i (ends o has at) =
+climb_wider_by {t} s {top} {b} {h} x {n} hold upper i (finds a has at) = climb_own t top n x a has ∙ sym (ap (beyond (t.leave b) (climb t top h x)) at)
+climb_wider_by {t} s {top} {b} {h} x {n} hold upper i (ends o has at) =
     climb_on s top x o (inside_apart s hold upper i o) hold has
     ∙ ap (λ (l : ℕ). past l (climb t top h x)) (sym (zero-add (t.leave b)))
     ∙ sym (ap (beyond (t.leave b) (climb t top h x)) at)
 climb_wider_by s x hold upper (own o') (leaves o other held has at up) = absurd (other cc)
-climb_wider_by {t} s {top} {b} {h} {n} x hold upper (deeper {h = g'} o' other' held' inner) (leaves {m = m} {h = g} {up = k} o other held has at up) =
+climb_wider_by {t} s {top} {b} {h} x {n} hold upper (deeper {h = g'} o' other' held' inner) (leaves {m = m} {h = g} {up = k} o other held has at up) =
     let same : g' ≡ g = cc in
     climb_on s top x o (inside_apart s hold upper (deeper o' other' held' inner) o) held has
     ∙ ap (past (t.leave m)) (climb_wider_by s x hold upper (subst (Inside t b) same inner) up)

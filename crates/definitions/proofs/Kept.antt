@@ -698,5 +698,5 @@ load_sound {t} s bytes h =
 -- and so does a list of streams
 pub expected_sound : {t : Tree} → Sound t → (streams : List (List ℕ)) → All Bytes streams → Sound (expected t streams)
 unfolding expected
-expected_sound s [] h = s
-expected_sound s (bytes ∷ rest) h = expected_sound (load_sound s bytes h.0) rest h.1
+expected_sound {t = t} s [] h = s
+expected_sound {t = t} s (bytes ∷ rest) h = expected_sound {t = (load t bytes).tree} (load_sound s bytes h.0) rest h.1

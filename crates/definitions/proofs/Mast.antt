@@ -1,6 +1,6 @@
 -- The mast book of document 01: its starred examples, by computing with the definitions; the claims of W-202, W-203, W-205 to W-207, W-209 and W-210 on it; and
 -- that an exit may end inside its machine. Assumes nothing.
-use mathlib.Core.Path.{◌≡◌, refl, sym, ap, ◌∙◌}
+use mathlib.Core.Path.{◌≡◌, refl, sym, ap, subst, ◌∙◌}
 use mathlib.Core.Logic.{inl, inr}
 use mathlib.Core.Bool.{Bool, true, false}
 use mathlib.Core.Option.{Option, none, some}
@@ -396,7 +396,9 @@ mast_judged : (n k : ℕ) (at : List ℕ) → (k ≤ most_walkers) × (length at
 mast_judged n k at small range used plain count few =
     let w : WellFormed (encode mast_tree) = encode_well_formed mast_tree sound in
     let same = tree_of_encode mast_tree sound in
-    (w.length, (w, (small, (range, (rw same used, (rw same plain, (rw same (rw count few), tt)))))))
+    let used' : All (UsedNode (tree_of (encode mast_tree))) (n ∷ at) = subst (λ u. All (UsedNode u) (n ∷ at)) (sym same) used in
+    let plain' : All (λ s. (tree_of (encode mast_tree)).below s ≡ none) at = subst (λ u. All (λ s. u.below s ≡ none) at) (sym same) plain in
+    (w.length, (w, (small, (range, (used', (plain', (rw same (rw count few), tt)))))))
 
 -- at most one inside node 1, with walkers at 0, 0 and 2
 none_inside : Passed (handed_refusals (encode mast_tree) 1 1 (0 ∷ 0 ∷ 2 ∷ []))

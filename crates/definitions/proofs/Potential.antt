@@ -177,5 +177,5 @@ module _ (t : Tree) (r : Rows) (top : ℕ) (opened : ℕ → Bool) (distance : �
   raised_run {n} {p} pot b (x ∷ xs) a e =
       let first = run_first (step_in t top) n x xs e in
       let (q₁, pot₁, b₁, le₁) = raised_step pot b x first.mid first.step in
-      let (q₂, pot₂, b₂, le₂) = raised_run pot₁ b₁ xs first.end first.rest in
+      let (q₂, pot₂, b₂, le₂) = raised_run {n = first.mid.node} pot₁ b₁ xs first.end first.rest in
       subst (Raised p) first.joins (q₂, pot₂, b₂, omega arith)

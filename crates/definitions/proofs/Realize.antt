@@ -51,7 +51,7 @@ run_wider {t} s {top} {b} {n = n} [] {a} hold upper i e =
 run_wider {t} s {top} {b} {n = n} (x ∷ xs) {a} hold upper i e =
     let first = run_first (step_in t b) n x xs e in
     let (e₁, i₁) = step_wider s x hold upper i first.step in
-    let rest = run_wider s xs hold upper i₁ first.rest in
+    let rest = run_wider s {n = first.mid.node} xs hold upper i₁ first.rest in
     record {
       same = run_cons (step_in t top) n x xs e₁ rest.same ∙ ap some first.joins;
       stays = subst (λ (z : Arrival). Inside t b z.node) first.joins rest.stays;
@@ -184,7 +184,7 @@ module _ (t : Tree) (s : Sound t) (r : Rows)
       let there : Leads t m e first.mid.node (c + first.mid.cost) = subst₂ (Leads t m e) parts.target (omega (arith, parts.exact)) on in
       let own_v : t.owner first.mid.node ≡ some m =
       subst (λ (v : ℕ). t.owner v ≡ some m) parts.target (counting_owned s u x parts.transition parts.has own_u) in
-      let end = leads_along lower own_v there xs first.rest in
+      let end = leads_along {u = first.mid.node} {c = c + first.mid.cost} lower own_v there xs first.rest in
       subst (λ (b : Arrival). Leads t m e b.node (c + b.cost)) first.joins (subst (Leads t m e first.end.node) (omega arith) end)
 
   -- so a node that a list of moves inside a machine reaches from its start is led to
@@ -226,21 +226,21 @@ module _ (t : Tree) (s : Sound t) (r : Rows)
       (had_from x last.node_cost last.node_exit_cost st full lower range last.owned last.reached last.free last.exits)
 
   -- from the lowest level up
-  had_deep : {m f k : ℕ} (x c : ℕ) → t.start m ≡ some f → r.stale m ≡ false → Deep t m k → (i : ℕ) → levels ≤ k + i → x < commands → r.exit m x ≡ some c
+  had_deep : (i : ℕ) {m f k : ℕ} (x c : ℕ) → t.start m ≡ some f → r.stale m ≡ false → Deep t m k → levels ≤ k + i → x < commands → r.exit m x ≡ some c
       → Had t m x c
-  had_deep x c st full d zero room range exit = absurd (omega (arith, deep_small s st d))
-  had_deep {m} {f} {k} x c st full d (suc i) room range exit =
+  had_deep zero x c st full d room range exit = absurd (omega (arith, deep_small s st d))
+  had_deep (suc i) {m} {f} {k} x c st full d room range exit =
       had_in x c st full
       (λ u b y z own_u bel range_y exit_b.
       let (g, st_b) = s.held_used b u (s.below_held u b bel) in
-      had_deep y z st_b (filled_below b m (parent_below s own_u bel) full) (deep_below s own_u bel d) i (omega arith) range_y exit_b)
+      had_deep i y z st_b (filled_below b m (parent_below s own_u bel) full) (deep_below s own_u bel d) (omega arith) range_y exit_b)
       range exit
 
   -- every exit cost of a filled row can be had
   pub had : {m f : ℕ} (x c : ℕ) → t.start m ≡ some f → r.stale m ≡ false → x < commands → r.exit m x ≡ some c → Had t m x c
   had {m} {f} x c st full range exit =
       let (k, small, way) = deep s st in
-      had_deep x c st full way levels (omega arith) range exit
+      had_deep levels x c st full way (omega arith) range exit
 
   -- so can those just below a machine where they are filled, and its nodes be reached by lists of moves
   lower : {m : ℕ} → ((u b : ℕ) → t.owner u ≡ some m → t.below u ≡ some b → r.stale b ≡ false) → Lower m

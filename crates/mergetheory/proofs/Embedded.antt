@@ -73,16 +73,16 @@ module _ {t u : Tree} (st : Sound t) (su : Sound u) {f g : ℕ → ℕ} (em : Em
       down (em.below n b bel) (em.start b s begins) (embedded_enters en (st.start_owned b s begins))
 
   -- a climb in the whole tree finds the same, or nothing in both
-  embedded_climb : {n : ℕ} (x : ℕ) {k : Climb} → Climbs t t.root x n k → SameClimb f k (climb u u.root (f n) x)
-  embedded_climb {n} x (finds a has at) = rw at (climb_own u u.root (f n) x _ (em.counts n x a has))
-  embedded_climb {n} x (ends o has at) =
+  embedded_climb : (x : ℕ) {n : ℕ} {k : Climb} → Climbs t t.root x n k → SameClimb f k (climb u u.root (f n) x)
+  embedded_climb x {n} (finds a has at) = rw at (climb_own u u.root (f n) x _ (em.counts n x a has))
+  embedded_climb x {n} (ends o has at) =
       let (s, used) = st.root_used in
       rw at (
         _,
         climb_on su u.root x (em.owner n t.root o) (em.apart t.root s used) em.held (em.counts_not n t.root x o has)
             ∙ ap (past (u.leave (g t.root))) (climb_top u u.root em.top x em.top_owner (em.top_free x)),
       )
-  embedded_climb {n} x (leaves {m = m} {h = h} {up = up} o other hold has at further) =
+  embedded_climb x {n} (leaves {m = m} {h = h} {up = up} o other hold has at further) =
       let (s, used) = st.held_used m h hold in
       rw (at, climb_on su u.root x (em.owner n m o) (em.apart m s used) (em.holder m h hold) (em.counts_not n m x o has), em.leaves m h hold)
       (same_past f (t.leave m) up (climb u u.root (f h) x) (embedded_climb x further))

@@ -23,7 +23,7 @@ use Rattle.opening.specs.Rows.{last_under, row_owner, row_below, row_start, next
 use Rattle.opening.specs.Rows.{grown, free, root_of, row_tree}
 use Rattle.definitions.specs.Ladder.{ladder_row, ladder_rows}
 use Rattle.definitions.proofs.Options.{is_at_true, is_at_some, none_some, true_false}
-use Rattle.definitions.proofs.Options.{and-true as both}
+use Rattle.definitions.proofs.Options.{and_true as both}
 use Rattle.definitions.proofs.Commands.{not_true_false}
 use Rattle.definitions.proofs.Opened.{given_some, given_below, ladder_holder_lem, ladder_sound}
 use Rattle.definitions.proofs.Words.{under_is, number_word, same_tree}

@@ -1,0 +1,27 @@
+-- `opening::open_sheet` meets its contract: the rows of the machines passed, and then of the nodes passed, are an opening's. Assumes nothing.
+use mathlib.Core.Path.{◌≡◌, sym, ◌∙◌, subst}
+use Prim.Native.Nat.{◌+◌, ◌-◌, ◌≤◌}
+use native.Mathlib.Omega.{arith}
+use borrow.Author.Rules.{rules}
+use lib.Dec.{eqb}
+use lib.ListN.{length}
+use Rattle.definitions.specs.Limits.{machines, nodes, sheet_length}
+use Rattle.definitions.specs.Book.{tree_of}
+use Rattle.definitions.specs.Sheet.{Rows, rows_of}
+use Rattle.sheet.specs.Fields.{Marks, with_blank_machine}
+use Rattle.sheet.proofs.Stores.{leaves_then}
+use Rattle.opening.proofs.Blank.{Opened, opened_none, opened_machine, opened_node, opened_all}
+use Rattle.opening.proofs.open_sheet.Given as goal
+
+abbrev pub invariant-loop-m : goal.invariant-loop-m
+invariant-loop-m l = (l.m ≤ machines) × (length l.sheet ≡ sheet_length) × Marks l.sheet × Opened (tree_of l.book) (rows_of l.sheet) l.m 0
+
+abbrev pub decreases-loop-m : goal.decreases-loop-m
+decreases-loop-m l = machines - l.m
+
+abbrev pub invariant-loop-n : goal.invariant-loop-n
+invariant-loop-n l =
+    (l.n ≤ nodes) × (length l.sheet ≡ sheet_length) × Marks l.sheet × Opened (tree_of l.book) (rows_of l.sheet) machines l.n
+
+abbrev pub decreases-loop-n : goal.decreases-loop-n
+decreases-loop-n l = nodes - l.n

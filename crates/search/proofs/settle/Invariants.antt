@@ -1,0 +1,18 @@
+-- `search::settle` meets its contract: n nodes are settled, and the list has the reached ones; the measure is how many are not settled.
+-- Assumes nothing.
+use mathlib.Core.Path.{◌≡◌, refl, sym, ◌∙◌}
+use Prim.Native.Nat.{◌+◌, ◌-◌}
+use native.Mathlib.Omega.{arith}
+use lib.ListN.{length}
+use Rattle.definitions.specs.Limits.{nodes}
+use Rattle.search.specs.Parts.{labels}
+use Rattle.search.proofs.Turning.{Turns, turns_first, turns_few, turns_places, turns_row, turns_listing, turned, searched_all, searched_goal}
+use Rattle.search.proofs.settle.Given as goal
+
+abbrev pub invariant-loop-n : goal.invariant-loop-n
+invariant-loop-n l =
+    ((length l.dist ≡ length l.initial.dist) × (length l.before ≡ length l.initial.before) × (length l.by ≡ length l.initial.by) × (length l.order ≡ nodes))
+    × Turns l.k l.source l.target l.price (labels l.initial.dist l.initial.before l.initial.by) l.dist l.before l.by l.order l.count l.n
+
+abbrev pub decreases-loop-n : goal.decreases-loop-n
+decreases-loop-n l = l.k - l.n

@@ -1,0 +1,18 @@
+-- `truesheet::follow` meets its contract. The loop's invariant: `v` is `steps` steps on from `n`. The measure is the steps that are left.
+-- Assumes nothing.
+use mathlib.Core.Path.{◌∙◌}
+use Prim.Native.Nat.{◌-◌, ◌≤◌, ◌<◌}
+use native.Mathlib.Omega.{arith}
+use Rattle.definitions.specs.Limits.{nodes, longest_chain}
+use Rattle.definitions.specs.Sheet.{rows_of}
+use Rattle.definitions.proofs.Words.{present_word}
+use Rattle.book.proofs.Said.{unsaid}
+use Rattle.sheet.proofs.Reading.{rows_of_read}
+use Rattle.truesheet.proofs.Chains.{Ahead, ahead_none, ahead_more, follows_counted, follows_here, follows_far}
+use Rattle.truesheet.proofs.follow.Given as goal
+
+abbrev pub invariant-loop-n : goal.invariant-loop-n
+invariant-loop-n l = (l.v < nodes) × (l.steps ≤ longest_chain) × Ahead (rows_of l.sheet) l.n l.v l.steps
+
+abbrev pub decreases-loop-n : goal.decreases-loop-n
+decreases-loop-n l = longest_chain - l.steps

@@ -1,0 +1,17 @@
+-- `turning::copy` meets its contract. The loop's invariant: so many words more are those of any list that the source agrees with. Assumes nothing.
+use mathlib.Core.Path.{◌≡◌, refl, ◌∙◌}
+use mathlib.Core.List.{List}
+use Prim.Native.Nat.{ℕ, ◌+◌, ◌-◌, ◌≤◌, ◌<◌}
+use native.Mathlib.Omega.{arith}
+use lib.ListN.{length, get_or, length-set}
+use Rattle.turning.specs.Fronts.{Front}
+use Rattle.turning.proofs.Laws.{front_put, front_at}
+use Rattle.turning.proofs.copy.Given as goal
+
+abbrev pub invariant-loop-i : goal.invariant-loop-i
+invariant-loop-i l =
+    (l.i ≤ l.count) × (length l.out ≡ length l.initial.out)
+    × ((f : List ℕ) → Front l.to f l.initial.out → ((j : ℕ) → j < l.count → get_or l.from (l.at + j) 0 ≡ get_or f (l.to + j) 0) → Front (l.to + l.i) f l.out)
+
+abbrev pub decreases-loop-i : goal.decreases-loop-i
+decreases-loop-i l = l.count - l.i
