@@ -3,10 +3,9 @@
 ** from state 0 to state 2 and from state 2 to state 11, with each state that the station passes and the node and level that acted. It turns
 ** the book by command, prints all transitions for commands 0 and 1 and makes a step in that layout. Then it imports a probe's timing of
 ** node 1's transition and plans from state 0 to state 2 over it. It holds node 11, plans round it, and releases it. It makes machine 1 dear
-** to leave, plans from state 0 to state 2 past it and from state 11 out of it, and takes the cost back. It deletes both transitions into
-** state 2, plans there in vain, prints the states that are reached instead, and puts the transitions back. It lets two walkers go from
-** state 0 with one place inside node 1. It merges the book with itself, and plans from state 0 to state 2 again and between the same states
-** of the twin. Finally it opens the ladder of depth 2 from a table of rows, and plans from state 3 to state 8.
+** to leave, plans from state 0 to state 2 past it and from state 11 out of it, and takes the cost back. It lets two walkers go from state 0
+** with one place inside node 1. It merges the book with itself, and plans from state 0 to state 2 again and between the same states of the
+** twin. Finally it opens the ladder of depth 2 from a table of rows, and plans from state 3 to state 8.
 */
 #include <ctype.h>
 #include <stdio.h>
@@ -56,40 +55,10 @@ static unsigned level_of(uint32_t node) {
   return level;
 }
 
-static int is_listed(const uint16_t *list, uint32_t count, uint32_t state) {
-  for (uint32_t i = 0; i < count; i++) if (list[i] == state) return 1;
-  return 0;
-}
-
-/* Prints the states that are reached where there is no way, and checks the list by himm_step: it holds the first state and lacks the
-   second, and every command at a listed state stops or leads to a listed state. */
-static void show_reached(uint32_t from, uint32_t to) {
-  uint16_t list[HIMM_NODES];
-  uint32_t count, next, cost, node;
-  must("reach", himm_reach(book, HIMM_BOOK_WORDS, sheet, HIMM_SHEET_WORDS, from, to, list, HIMM_NODES, &count));
-  printf("from %u to %u: no way; %u states are reached:", (unsigned)from, (unsigned)to, (unsigned)count);
-  int true_list = is_listed(list, count, from) && !is_listed(list, count, to);
-  for (uint32_t i = 0; i < count; i++) {
-    printf(" %u", (unsigned)list[i]);
-    for (uint32_t command = 0; command < HIMM_COMMANDS; command++) {
-      uint32_t refusal = himm_step(book, HIMM_BOOK_WORDS, list[i], command, &next, &cost, &node);
-      if (refusal != HIMM_STOPS) must("step", refusal);
-      if (refusal == HIMM_OK && !is_listed(list, count, next)) true_list = 0;
-    }
-  }
-  printf("; %s\n", true_list ? "no command leads out of them" : "the list is false");
-}
-
-/* Prints a cheapest list of commands and what each of them does, or, where there is none, the states that are reached. */
 static void show_plan(uint32_t from, uint32_t to) {
   uint8_t plan[HIMM_PLAN_BYTES];
   uint32_t cost, count, node, state = from;
-  uint32_t refusal = himm_plan(book, HIMM_BOOK_WORDS, sheet, HIMM_SHEET_WORDS, from, to, plan, HIMM_PLAN_BYTES, &cost, &count);
-  if (refusal == HIMM_NO_WAY) {
-    show_reached(from, to);
-    return;
-  }
-  must("plan", refusal);
+  must("plan", himm_plan(book, HIMM_BOOK_WORDS, sheet, HIMM_SHEET_WORDS, from, to, plan, HIMM_PLAN_BYTES, &cost, &count));
   printf("from %u to %u: cost %u, %u commands:", (unsigned)from, (unsigned)to, (unsigned)cost, (unsigned)count);
   for (uint32_t i = 0; i < count; i++) {
     must("step", himm_step(book, HIMM_BOOK_WORDS, state, plan[i], &state, &cost, &node));
@@ -140,20 +109,6 @@ static void set_leave(uint8_t machine, uint16_t cost) {
   const uint8_t bytes[] = {HIMM_LEAVE, machine, (uint8_t)(cost >> 8), (uint8_t)cost, HIMM_REFRESH};
   printf("leaving machine %u costs %u\n", (unsigned)machine, (unsigned)cost);
   load(bytes, sizeof bytes);
-}
-
-/* Deletes node 1's transition for command 1 and node 0's for command 2, which alone lead to state 2, plans there, and puts both lists back
-   as they were. */
-static void end_the_road(void) {
-  static const uint8_t bytes[] = {HIMM_CLEAR, 0, 1, 1, HIMM_CLEAR, 0, 0, 2, HIMM_REFRESH};
-  static uint32_t old_book[HIMM_BOOK_WORDS], old_sheet[HIMM_SHEET_WORDS];
-  memcpy(old_book, book, sizeof old_book);
-  memcpy(old_sheet, sheet, sizeof old_sheet);
-  printf("deleted the transitions into node 2\n");
-  load(bytes, sizeof bytes);
-  show_plan(0, 2);
-  memcpy(book, old_book, sizeof book);
-  memcpy(sheet, old_sheet, sizeof sheet);
 }
 
 /* Opens two walkers at state 0, of which one may be inside node 1, and gives them some commands. */
@@ -215,7 +170,6 @@ int main(int argc, char **argv) {
   show_plan(0, 2);
   show_plan(11, 2);
   set_leave(1, 0);
-  end_the_road();
   let_walkers_go();
   merge_with_itself();
   load(refresh, sizeof refresh);

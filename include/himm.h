@@ -149,8 +149,7 @@ enum himm_refusal {
   HIMM_HELD_START = 21,      /* hold: a start node cannot be held; start: a held node cannot become one */
   HIMM_NODE_FULL = 22,       /* walk: the walker would come inside the node, and as many as the limit allows are there */
   HIMM_TOO_MANY_WALKERS = 23,/* walkers, walk: the limit or the number of walkers is over HIMM_WALKERS, or more than the limit are inside */
-  HIMM_WRONG_DEPTH = 24,     /* ladder: the depth is not from 1 to HIMM_LARGEST_DEPTH */
-  HIMM_THERE_IS_A_WAY = 25   /* reach: some list of commands leads there */
+  HIMM_WRONG_DEPTH = 24      /* ladder: the depth is not from 1 to HIMM_LARGEST_DEPTH */
 };
 
 /*
@@ -264,32 +263,10 @@ uint32_t himm_step(const uint32_t *book, size_t book_len, uint32_t state, uint32
 **   count                             how many commands the list has
 **
 ** Refuses: HIMM_WRONG_LENGTH, HIMM_TORN_BOOK, HIMM_FALSE_SHEET, HIMM_STALE (any machine), HIMM_OUT_OF_RANGE, HIMM_NOT_IN_USE,
-** HIMM_NOT_PLAIN, HIMM_BUFFER_TOO_SHORT, HIMM_NO_WAY (no list of commands leads there; himm_reach lists what is reached instead).
+** HIMM_NOT_PLAIN, HIMM_BUFFER_TOO_SHORT, HIMM_NO_WAY (no list of commands leads there).
 */
 uint32_t himm_plan(const uint32_t *book, size_t book_len, const uint32_t *sheet, size_t sheet_len, uint32_t from, uint32_t to,
                    uint8_t *plan, size_t plan_len, uint32_t *cost, uint32_t *count);
-
-/*
-** himm_reach: where the road ends. For two states with no way from the first to the second (himm_plan: HIMM_NO_WAY), all states that some
-** list of commands reaches from the first, which is one of them. The call judges all itself: it needs no earlier plan, and trusts none.
-**
-** The list shows that there is no way, and himm_step is all that a reader needs to check it: the list holds from, it lacks to, and every
-** command at a listed state stops (HIMM_STOPS) or leads to a listed state, so that no list of commands ever leads out. That no state is
-** listed in vain is seen by himm_plan, which has a way from the first to each of them.
-**
-**   book, book_len, sheet, sheet_len  read only; no machine may be stale
-**   from, to                          two states
-**   out, out_len                      takes the listed states, 16 bits each, by rising node and each once, at its front; later numbers are
-**                                     untouched. It must have as many numbers as the book has states, however few are listed; HIMM_NODES
-**                                     numbers are always enough
-**   count                             how many states are listed: from 1 to the states of the book, less 1
-**
-** Refuses: HIMM_WRONG_LENGTH, HIMM_TORN_BOOK, HIMM_FALSE_SHEET, HIMM_STALE (any machine), HIMM_OUT_OF_RANGE, HIMM_NOT_IN_USE,
-** HIMM_NOT_PLAIN, HIMM_BUFFER_TOO_SHORT (out has fewer numbers than the book has states), HIMM_THERE_IS_A_WAY (some list of commands leads
-** there; from a state to itself it is the empty one).
-*/
-uint32_t himm_reach(const uint32_t *book, size_t book_len, const uint32_t *sheet, size_t sheet_len, uint32_t from, uint32_t to,
-                    uint16_t *out, size_t out_len, uint32_t *count);
 
 /*
 ** himm_write: the stream of a book, last its holds and after them its costs of leaving. Loaded into any holding whose book is well formed
@@ -420,12 +397,11 @@ uint32_t himm_by_command(const uint32_t *book, size_t book_len, uint32_t *out, s
 uint32_t himm_by_node(const uint32_t *book, size_t book_len, uint32_t *out, size_t out_len);
 
 /*
-** himm_NAME_by_command: himm_NAME for books by command. Each call that is lent a book stands here once more, but himm_reach, for which a
-** book by command is turned first (himm_by_node) and its sheet lent as it is; himm_ladder and himm_import are lent none. Arguments, sizes
-** and refusals with their order are those of himm_NAME, and so is what a refusal leaves. Every book that is lent is taken by command, all
-** three of himm_merge_by_command too, and every book that is written is left by command. The answer is what himm_NAME gives for the same
-** book by node; where several are right (which of the cheapest lists a plan is, which of the cheapest ways the rows of a refreshed sheet
-** name) it need not be the same one.
+** himm_NAME_by_command: himm_NAME for books by command. Each call that is lent a book stands here once more; himm_ladder and himm_import
+** are lent none. Arguments, sizes and refusals with their order are those of himm_NAME, and so is what a refusal leaves. Every book that is
+** lent is taken by command, all three of himm_merge_by_command too, and every book that is written is left by command. The answer is what
+** himm_NAME gives for the same book by node; where several are right (which of the cheapest lists a plan is, which of the cheapest ways the
+** rows of a refreshed sheet name) it need not be the same one.
 **
 ** Such a call turns each book that it is lent into memory of its own, on the stack, and turns back what it writes. It needs 20 kilobytes
 ** of stack more than himm_NAME, himm_merge_by_command 60 more; what is said above of every call's stack holds of these too.

@@ -22,7 +22,7 @@ const BARE: [Row; 5] = [
 /// The rows of each kind of book. Steps are compared by state and cost, since a library before version 2 does not name the node. No node is
 /// held and no machine costs anything to leave, and books are compared up to the holds: a library before version 3 has no words for them,
 /// and one before version 4 none for costs of leaving.
-const ROWS: [Row; 21] = [
+const ROWS: [Row; 19] = [
     ("plan", "himm_plan", |side, i, t| side.plan(i, t).into_iter().collect()),
     ("checks of book and sheet", "himm_exit", |side, i, t| none(side.at(i).check_both(t))),
     ("checks of the book", "himm_step", |side, i, t| none(side.at(i).check_book(t))),
@@ -31,8 +31,6 @@ const ROWS: [Row; 21] = [
     ("exit", "himm_exit", |side, i, t| side.exit(i, t).into_iter().collect()),
     ("choose, short lists", "himm_choose", |side, i, t| side.choose(i, t).map_or(vec![], |(which, used)| vec![which, used])),
     ("choose, long lists", "himm_choose", |side, i, t| side.choose_long(i, t).map_or(vec![], |(which, used)| vec![which, used])),
-    ("reach, no way", "himm_reach", |side, i, t| listed(side.reach(i, t))),
-    ("reach, mostly a way", "himm_reach", |side, i, t| listed(side.reach_as_planned(i, t))),
     ("load of the whole book", "himm_load", |side, i, t| front(side.load(i, t))),
     ("load of an empty stream", "himm_load", |side, i, t| front(side.load_nothing(i, t))),
     ("one edit and refresh", "himm_load", |side, i, t| front(side.edit_and_refresh(i, t))),
@@ -61,11 +59,6 @@ fn front(mut book: Vec<u32>) -> Vec<u32> {
 /// The answer of work that gives bytes.
 fn words(bytes: Vec<u8>) -> Vec<u32> {
     bytes.into_iter().map(u32::from).collect()
-}
-
-/// The answer of Reach: the states that are listed, or the refusal, a number of no node.
-fn listed(answer: Result<Vec<u16>, u32>) -> Vec<u32> {
-    answer.map_or_else(|refusal| vec![ABSENT, refusal], |list| list.into_iter().map(u32::from).collect())
 }
 
 /// The answer of a walker command: the refusal, or cost and node, and the walkers' states.

@@ -62,16 +62,6 @@ impl Holding {
         Holding::opened(self.library, false, &self.stream())
     }
 
-    /// The same without the transitions into a state that is no start, so that no list of commands leads there from another one.
-    pub fn cut_off(&self, state: usize) -> Holding {
-        let mut stream = self.stream();
-        for node in self.tree.nodes_of(self.tree.node(state).owner) {
-            let into = |command: &usize| self.tree.node(node).transitions[*command].is_some_and(|t| t.target == state);
-            stream.extend((0..COMMANDS).filter(into).flat_map(|command| Command::Clear { node, command }.bytes()));
-        }
-        Holding::opened(self.library, false, &then_refresh(&stream))
-    }
-
     /// The stream of the book.
     pub fn stream(&self) -> Vec<u8> {
         let mut out = vec![0; STREAM_BYTES];
@@ -106,12 +96,6 @@ impl Holding {
         timed(times, || self.library.plan(&self.book, &self.sheet, pair, &mut buffer)).ok()
     }
 
-    /// What Reach lists; the output is filled outside the clock.
-    pub fn reach(&self, pair: (u32, u32), times: &mut Times) -> Result<Vec<u16>, u32> {
-        let mut out = [u16::MAX; NODES];
-        timed(times, || self.library.reach(&self.book, &self.sheet, pair, &mut out)).map(|count| out[..count].to_vec())
-    }
-
     /// A stream loaded into a copy of the holding, which is made outside the clock; gives the words of the book.
     pub fn load(&self, stream: &[u8], times: &mut Times) -> Vec<u32> {
         let (mut words, mut sheet) = (self.book.clone(), self.sheet.clone());
@@ -141,14 +125,7 @@ impl Holding {
 
     /// The checks of a book and its sheet alone: an exit refused for its command, once both are checked.
     pub fn check_both(&self, times: &mut Times) {
-        self.check_both_and(|| (), times);
-    }
-
-    /// The same and then some work, timed together; gives what the work gives.
-    pub fn check_both_and<T>(&self, work: impl FnOnce() -> T, times: &mut Times) -> T {
-        let (answer, given) = timed(times, || (self.library.exit(&self.book, &self.sheet, 0, COMMANDS as u32), work()));
-        assert_eq!(answer, Err(OUT_OF_RANGE));
-        given
+        assert_eq!(timed(times, || self.library.exit(&self.book, &self.sheet, 0, COMMANDS as u32)), Err(OUT_OF_RANGE));
     }
 
     /// The lengths alone: an exit refused for a book that is a word too short.

@@ -26,7 +26,6 @@ type Load = unsafe extern "C" fn(*mut u32, usize, *mut u32, usize, *const u8, us
 type Exit = unsafe extern "C" fn(*const u32, usize, *const u32, usize, u32, u32, *mut u32) -> u32;
 type Step = unsafe extern "C" fn(*const u32, usize, u32, u32, *mut u32, *mut u32, *mut u32) -> u32;
 type Plan = unsafe extern "C" fn(*const u32, usize, *const u32, usize, u32, u32, *mut u8, usize, *mut u32, *mut u32) -> u32;
-type Reach = unsafe extern "C" fn(*const u32, usize, *const u32, usize, u32, u32, *mut u16, usize, *mut u32) -> u32;
 type Write = unsafe extern "C" fn(*const u32, usize, *mut u8, usize, *mut u32) -> u32;
 type Choose = unsafe extern "C" fn(*const u32, usize, u32, u32, *const u8, usize, *const u8, usize, *mut u32, *mut u32) -> u32;
 type Merge = unsafe extern "C" fn(*const u32, usize, *const u32, usize, *mut u32, usize, *mut u32, usize) -> u32;
@@ -46,7 +45,6 @@ pub struct Library {
     exit: Option<Exit>,
     step: Option<Step>,
     plan: Option<Plan>,
-    reach: Option<Reach>,
     write: Option<Write>,
     choose: Option<Choose>,
     merge: Option<Merge>,
@@ -120,7 +118,6 @@ impl Library {
             exit: opened.call("himm_exit"),
             step: opened.call("himm_step"),
             plan: opened.call("himm_plan"),
-            reach: opened.call("himm_reach"),
             write: opened.call("himm_write"),
             choose: opened.call("himm_choose"),
             merge: opened.call("himm_merge"),
@@ -199,14 +196,6 @@ impl Library {
     /// The same over a book by command.
     pub fn plan_by_command(&self, book: &[u32], sheet: &[u32], pair: (u32, u32), buffer: &mut [u8]) -> Result<u32, u32> {
         plan(self.plan_by_command.expect("himm_plan_by_command"), book, sheet, pair, buffer)
-    }
-
-    /// The number of states that are reached where there is no way; they go to the output.
-    pub fn reach(&self, book: &[u32], sheet: &[u32], (from, to): (u32, u32), out: &mut [u16]) -> Result<usize, u32> {
-        let (call, mut count) = (self.reach.expect("himm_reach"), 0);
-        let (b, s) = ((book.as_ptr(), book.len()), (sheet.as_ptr(), sheet.len()));
-        let number = unsafe { call(b.0, b.1, s.0, s.1, from, to, out.as_mut_ptr(), out.len(), &mut count) };
-        answer(number, count as usize)
     }
 
     /// A book by node turned by command.

@@ -7,7 +7,7 @@ use crate::timing::{medians, print_row, rounds, timed, Times};
 use himm_model::flat::Flat;
 use himm_model::import::Import;
 use himm_model::stream::Station;
-use himm_model::{book, calls, choose, layout, merge, table, write, LARGEST_DEPTH, NODES};
+use himm_model::{book, calls, choose, layout, merge, table, write, LARGEST_DEPTH};
 
 /// How many other books are judged between two calls on the same one.
 const OTHERS: usize = 8;
@@ -62,25 +62,13 @@ pub fn all(name: &str, side: &Side, agreement: &mut Agreement) {
 /// The rows that are also measured with one book again and again.
 pub fn again(side: &Side, agreement: &mut Agreement) {
     plans(side, agreement);
-    reaches(side, agreement);
     edits(side, agreement);
     steps(side, agreement);
 }
 
 /// The flat search's cost for the pair of a round.
 fn search(flat: &Flat, side: &Side, i: usize) -> Option<u32> {
-    search_pair(flat, side.pairs[i])
-}
-
-/// The same for a pair.
-fn search_pair(flat: &Flat, (from, to): (u32, u32)) -> Option<u32> {
-    flat.search(from as usize, to as usize).map(|way| way.cost)
-}
-
-/// Judges some other books than that of a round, outside the clock: where both sides judge the same book, the second would else find it
-/// learnt by the processor.
-fn judge_others(side: &Side, i: usize) {
-    (1..=OTHERS).for_each(|k| side.at(i + k).check_both(&mut Times::default()));
+    flat.search(side.pairs[i].0 as usize, side.pairs[i].1 as usize).map(|way| way.cost)
 }
 
 /// Plans against the flat search, flattened in two ways or beforehand.
@@ -95,38 +83,6 @@ fn plans(side: &Side, agreement: &mut Agreement) {
     rounds(ROUNDS, plan, alone, |a, b| agreement.of(a, b)).print("plan", "search alone");
     let flatten = |i: usize, times: &mut _| timed(times, || Flat::of(&side.at(i).book));
     rounds(ROUNDS, |i, t| side.at(i).check_both(t), flatten, |_, _| ()).print("checks of a plan alone", "flatten alone");
-}
-
-/// Reach against a plan's checks (ours) with one flattening and one search behind them, which say whether there is a way and list nothing;
-/// and against the model, which decodes the book within the clock and trusts the sheet.
-fn reaches(side: &Side, agreement: &mut Agreement) {
-    let bound = |(holding, pair): (&Holding, (u32, u32)), times: &mut Times| {
-        holding.check_both_and(|| search_pair(&Flat::of(&holding.book), pair), times).is_some()
-    };
-    let reach = |i: usize, times: &mut _| {
-        judge_others(side, i);
-        side.reach(i, times)
-    };
-    let no_way = |i: usize, times: &mut _| {
-        judge_others(side, i);
-        bound(side.no_way(i), times)
-    };
-    let against = "checks (ours), flatten and search";
-    rounds(ROUNDS, reach, no_way, |a, b| agreement.of(a.is_err(), b)).print("reach, no way", against);
-    let planned = |i: usize, times: &mut _| {
-        judge_others(side, i);
-        side.reach_as_planned(i, times)
-    };
-    let a_way = |i: usize, times: &mut _| {
-        judge_others(side, i);
-        bound((side.at(i), side.pairs[i]), times)
-    };
-    rounds(ROUNDS, planned, a_way, |a, b| agreement.of(a.is_err(), b)).print("reach, mostly a way", against);
-    let model = |i: usize, times: &mut _| {
-        let (holding, (from, to)) = side.no_way(i);
-        timed(times, || calls::read_book(&holding.book).and_then(|tree| calls::reach(&tree, &holding.sheet, from, to, NODES)))
-    };
-    rounds(ROUNDS / 4, |i, t| side.reach(i, t), model, |a, b| agreement.of(a, b)).print("reach, no way", "the plain model's reach");
 }
 
 /// One edit, then a plan: with a refresh in between on our side, with a new flattening on the other.
@@ -233,23 +189,25 @@ fn layouts(side: &Side, agreement: &mut Agreement) {
     rounds(ROUNDS, look, |i, t| side.scan_by_node(i, t), |a, b| agreement.of(a, b)).print(name, "the same by node");
 }
 
-/// A step and a plan by command against the same by node. Both sides judge the same book, so others are judged before each of them.
+/// A step and a plan by command against the same by node. Both sides judge the same book, and the second would find it learnt by the
+/// processor; so before each of them some other books are judged, outside the clock.
 fn calls_by_command(side: &Side, agreement: &mut Agreement) {
+    let others = |i: usize| (1..=OTHERS).for_each(|k| side.at(i + k).check_both(&mut Times::default()));
     let step = |i: usize, times: &mut _| {
-        judge_others(side, i);
+        others(i);
         side.step_by_command(i, times)
     };
     let step_by_node = |i: usize, times: &mut _| {
-        judge_others(side, i);
+        others(i);
         side.step(i, times)
     };
     rounds(ROUNDS, step, step_by_node, |a, b| agreement.of(a, b)).print("step by command", "step (ours)");
     let plan = |i: usize, times: &mut _| {
-        judge_others(side, i);
+        others(i);
         side.plan_by_command(i, times)
     };
     let plan_by_node = |i: usize, times: &mut _| {
-        judge_others(side, i);
+        others(i);
         side.plan(i, times)
     };
     rounds(ROUNDS, plan, plan_by_node, |a, b| agreement.of(a, b)).print("plan by command", "plan (ours)");

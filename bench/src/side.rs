@@ -31,13 +31,12 @@ const RECORD: usize = 18;
 const DEAD_TIME: f32 = 0.25;
 
 /// Books, taken in turn round by round, so that no side meets the same book twice in a row where there is more than one; beside them the
-/// same with every machine stale, the same with a state cut off, a fresh one, and the words of each by command. Streams and long lists are
-/// by book, the other inputs by round.
+/// same with every machine stale, a fresh one, and the words of each by command. Streams and long lists are by book, the other inputs by
+/// round.
 pub struct Side {
     pub books: Vec<Holding>,
     by_command: Vec<Vec<u32>>,
     stale: Vec<Holding>,
-    cut_off: Vec<CutOff>,
     fresh: Holding,
     pub streams: Vec<Vec<u8>>,
     pub pairs: Vec<(u32, u32)>,
@@ -46,12 +45,6 @@ pub struct Side {
     pub walks: Vec<Walk>,
     lists: Vec<[Vec<u8>; 2]>,
     long: Vec<Choice>,
-}
-
-/// A book with no way to one of its states from another one, and that state.
-struct CutOff {
-    holding: Holding,
-    state: u32,
 }
 
 /// Two long lists of commands from one state to another.
@@ -107,7 +100,6 @@ impl Side {
         Side {
             by_command: books.iter().map(|holding| layout::by_command(&book::encode(&holding.tree))).collect(),
             stale: books.iter().map(Holding::stale).collect(),
-            cut_off: books.iter().map(CutOff::of).collect(),
             fresh: Holding::fresh(books[0].library),
             streams: books.iter().map(Holding::stream).collect(),
             pairs: (0..ROUNDS).map(|round| pairs[round % pairs.len()][round]).collect(),
@@ -165,24 +157,6 @@ impl Side {
     /// A plan's cost.
     pub fn plan(&self, round: usize, times: &mut Times) -> Option<u32> {
         self.at(round).plan(self.pairs[round], times)
-    }
-
-    /// The book of a round with a state cut off, and a pair of another state and that one.
-    pub fn no_way(&self, round: usize) -> (&Holding, (u32, u32)) {
-        let CutOff { holding, state } = &self.cut_off[round % self.cut_off.len()];
-        let others: Vec<usize> = holding.tree.states().into_iter().filter(|&other| other != *state as usize).collect();
-        (holding, (Random::new(round as u64).pick(&others) as u32, *state))
-    }
-
-    /// What Reach lists for this pair.
-    pub fn reach(&self, round: usize, times: &mut Times) -> Result<Vec<u16>, u32> {
-        let (holding, pair) = self.no_way(round);
-        holding.reach(pair, times)
-    }
-
-    /// What it answers for the pair of the round's plan, mostly that there is a way.
-    pub fn reach_as_planned(&self, round: usize, times: &mut Times) -> Result<Vec<u16>, u32> {
-        self.at(round).reach(self.pairs[round], times)
     }
 
     /// One edit, a refresh of what it left stale, and a plan, whose cost it gives.
@@ -355,15 +329,6 @@ fn timings(round: usize, floats: fn(&mut Random) -> (u32, u32)) -> Vec<Import> {
         Import { node, command, target, kind, seconds, dead_time }
     };
     (0..TIMINGS).map(|_| one()).collect()
-}
-
-impl CutOff {
-    /// The book with some state cut off that is no start.
-    fn of(holding: &Holding) -> CutOff {
-        let states: Vec<usize> = holding.tree.states().into_iter().filter(|&n| !holding.tree.is_start(n)).collect();
-        let state = Random::new(8).pick(&states);
-        CutOff { holding: holding.cut_off(state), state: state as u32 }
-    }
 }
 
 impl Choice {

@@ -5,7 +5,7 @@ use crate::import::{self, Import, Reading};
 use crate::sheet::{self, is_stale, Exits};
 use crate::stream::{Command, Row, Station};
 use crate::tree::{Moved, Tree};
-use crate::{book, choose, merge, reach, table, walk, write};
+use crate::{book, choose, merge, table, walk, write};
 use crate::{BOOK_WORDS, COMMANDS, LARGEST_DEPTH, MACHINES, NODES, ROW_WORDS, SHEET_WORDS, TABLE_WORDS, WALKERS};
 
 /// Refuses where the test does not hold.
@@ -88,26 +88,12 @@ pub fn step(tree: &Tree, state: u32, command: u32) -> Result<Moved, u32> {
     tree.step(s, command as usize).ok_or(17)
 }
 
-/// Two states of a true holding in which no machine is stale: refuses 13, 6, 7, 14.
-fn ready(tree: &Tree, sheet: &[u32], from: u32, to: u32) -> Result<(usize, usize), u32> {
-    ask(13, (0..MACHINES).all(|m| !is_stale(sheet, m)))?;
-    two_states(tree, from, to)
-}
-
 /// The cost of a plan over a true holding: refuses 13, 6, 7, 14, 15, 16.
 pub fn plan(tree: &Tree, sheet: &[u32], flat: &Flat, from: u32, to: u32, room: usize) -> Result<u32, u32> {
-    let (a, b) = ready(tree, sheet, from, to)?;
+    ask(13, (0..MACHINES).all(|m| !is_stale(sheet, m)))?;
+    let (a, b) = two_states(tree, from, to)?;
     ask(15, room + 1 >= tree.states().len())?;
     flat.costs_from(a)[b].ok_or(16)
-}
-
-/// Reach over a true holding, into an output of so many numbers: refuses 13, 6, 7, 14, 15, 25; gives the states that are listed.
-pub fn reach(tree: &Tree, sheet: &[u32], from: u32, to: u32, room: usize) -> Result<Vec<u16>, u32> {
-    let (a, b) = ready(tree, sheet, from, to)?;
-    ask(15, room >= tree.states().len())?;
-    let reached = reach::reached(tree, a);
-    ask(25, !reached.contains(&b))?;
-    Ok(reached.into_iter().map(|state| state as u16).collect())
 }
 
 /// Write: refuses 15.

@@ -10,7 +10,6 @@ pub mod import;
 pub mod layout;
 pub mod merge;
 pub mod random;
-pub mod reach;
 pub mod sheet;
 pub mod stream;
 pub mod table;

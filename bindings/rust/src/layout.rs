@@ -1,4 +1,4 @@
-//! The two layouts of a book, turning one into the other, and the calls that are lent a book, in either.
+//! The two layouts of a book, turning one into the other, and every call that is lent a book, in either.
 
 use crate::raw;
 use crate::{Chosen, Loaded, Moved, Plan, Refusal, Which};
@@ -6,7 +6,7 @@ use crate::{Chosen, Loaded, Moved, Plan, Refusal, Which};
 /// The order of a book's words. The functions of this crate take books by node; the methods here are the same calls for books of one of
 /// the layouts: every book that is lent is in it, and so is every book that is written. Answers and refusals are the same in both. A sheet
 /// has one layout only. No word tells the layout: a book in the other one is judged as what its words say there, and as a rule refused as
-/// torn. [`reach`](crate::reach) takes books by node alone.
+/// torn.
 ///
 /// ```
 /// use himm::Layout;

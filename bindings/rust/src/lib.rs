@@ -4,8 +4,7 @@
 //! Every call is safe on any input: a list of a wrong length, a torn book and a false sheet are refused. A refused call changes nothing
 //! that was lent, but for the commands that [`load`] took before the refused one.
 //!
-//! A book has two layouts. The functions here take books by node; for books by command they are methods of [`Layout::ByCommand`], all but
-//! [`reach`].
+//! A book has two layouts. The functions here take books by node; for books by command they are methods of [`Layout::ByCommand`].
 //!
 //! ```
 //! let (mut book, mut sheet) = (vec![0; himm::BOOK_WORDS], vec![0; himm::SHEET_WORDS]);
@@ -184,28 +183,6 @@ pub fn step(book: &[u32], state: u32, command: u32) -> Result<Moved, Refusal> {
 /// A cheapest list of commands from one state to another.
 pub fn plan<'a>(book: &[u32], sheet: &[u32], from: u32, to: u32, buffer: &'a mut [u8]) -> Result<Plan<'a>, Refusal> {
     Layout::ByNode.plan(book, sheet, from, to, buffer)
-}
-
-/// Where the road ends: all states that some list of commands reaches from one state, where none leads to the other. They are given by
-/// rising node, at the front of the lent output, which must have as many numbers as the book has states; [`NODES`] are always enough.
-/// [`step`] checks the list: it holds the one state, lacks the other, and every command at a listed state stops or leads to a listed state.
-///
-/// ```
-/// let (mut book, mut sheet) = (vec![0; himm::BOOK_WORDS], vec![0; himm::SHEET_WORDS]);
-/// let mut rows = [0; himm::TABLE_WORDS];
-/// himm::open_table(himm::ladder(1, &mut rows)?, &mut book, &mut sheet)?;
-/// // Three states in a row, without the transition of state 1 to state 2.
-/// himm::load(&mut book, &mut sheet, &[0x15, 0, 1, 1, himm::REFRESH]).result?;
-/// let mut out = [0; himm::NODES];
-/// assert_eq!(himm::reach(&book, &sheet, 0, 2, &mut out)?, [0, 1]);
-/// assert_eq!(himm::reach(&book, &sheet, 2, 0, &mut out), Err(himm::Refusal::ThereIsAWay));
-/// # Ok::<(), himm::Refusal>(())
-/// ```
-pub fn reach<'a>(book: &[u32], sheet: &[u32], from: u32, to: u32, out: &'a mut [u16]) -> Result<&'a [u16], Refusal> {
-    let (b, s, mut count) = ((book.as_ptr(), book.len()), (sheet.as_ptr(), sheet.len()), 0);
-    // SAFETY: each pointer is that of a slice, passed with the slice's length; the mutable one overlaps nothing.
-    let number = unsafe { raw::himm_reach(b.0, b.1, s.0, s.1, from, to, out.as_mut_ptr(), out.len(), &mut count) };
-    Refusal::check(number).map(|()| &out[..count as usize])
 }
 
 /// The stream of a book, at the front of the lent output.

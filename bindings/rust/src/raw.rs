@@ -41,17 +41,6 @@ extern "C" {
         cost: *mut u32,
         count: *mut u32,
     ) -> u32;
-    pub fn himm_reach(
-        book: *const u32,
-        book_len: usize,
-        sheet: *const u32,
-        sheet_len: usize,
-        from: u32,
-        to: u32,
-        out: *mut u16,
-        out_len: usize,
-        count: *mut u32,
-    ) -> u32;
     pub fn himm_write(book: *const u32, book_len: usize, out: *mut u8, out_len: usize, length: *mut u32) -> u32;
     pub fn himm_choose(
         book: *const u32,

@@ -30,12 +30,11 @@ pub enum Refusal {
     NodeFull = 22,
     TooManyWalkers = 23,
     WrongDepth = 24,
-    ThereIsAWay = 25,
 }
 
 impl Refusal {
     /// Every refusal, the one with number k at place k - 1.
-    pub const ALL: [Refusal; 25] = [
+    pub const ALL: [Refusal; 24] = [
         Refusal::WrongLength,
         Refusal::TornBook,
         Refusal::FalseSheet,
@@ -60,10 +59,9 @@ impl Refusal {
         Refusal::NodeFull,
         Refusal::TooManyWalkers,
         Refusal::WrongDepth,
-        Refusal::ThereIsAWay,
     ];
 
-    /// The refusal of a number 1 to 25.
+    /// The refusal of a number 1 to 24.
     pub fn of(number: u32) -> Option<Refusal> {
         Refusal::ALL.get((number as usize).wrapping_sub(1)).copied()
     }
@@ -73,12 +71,12 @@ impl Refusal {
         self as u32
     }
 
-    /// What a call returned: 0 is no refusal. The library returns no number over 25.
+    /// What a call returned: 0 is no refusal. The library returns no number over 24.
     pub(crate) fn check(number: u32) -> Result<(), Refusal> {
         if number == 0 {
             return Ok(());
         }
-        Err(Refusal::of(number).expect("a refusal's number is 1 to 25"))
+        Err(Refusal::of(number).expect("a refusal's number is 1 to 24"))
     }
 
     fn meaning(self) -> &'static str {
@@ -107,7 +105,6 @@ impl Refusal {
             Refusal::NodeFull => "as many walkers as may be are inside the node",
             Refusal::TooManyWalkers => "a limit or a number of walkers over 8, or more walkers inside than the limit",
             Refusal::WrongDepth => "a depth that is not from 1 to 6",
-            Refusal::ThereIsAWay => "some list of commands leads there",
         }
     }
 }

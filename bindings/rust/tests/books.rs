@@ -24,7 +24,6 @@ fn compare(holding: &Holding, random: &mut Random, most: usize) {
     }
     for _ in 0..20 {
         let (from, to) = (random.pick(&nodes), random.pick(&nodes));
-        holding.compare_reach(&view, from, to, random.pick(&[states, states - 1, himm::NODES]));
         let (first, second) = (list(random, &tree), list(random, &tree));
         holding.compare_choice(&view, from, to, &first, &second);
         let walkers: Vec<u32> = (0..random.below(WALKERS + 2)).map(|_| random.pick(&nodes)).collect();

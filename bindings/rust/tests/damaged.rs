@@ -22,7 +22,6 @@ fn compare(holding: &Holding, view: &View, random: &mut Random) {
     holding.compare_exit(view, machine, command);
     holding.compare_step(view, from, command);
     holding.compare_plan(view, from, to, himm::PLAN_BYTES);
-    holding.compare_reach(view, from, to, himm::NODES);
     holding.compare_choice(view, from, to, &[0, 1, 2], &[1]);
     holding.clone().load(&[himm::REFRESH]);
     holding.clone().open_table(if command % 2 == 0 { &GOOD } else { &TORN });

@@ -99,5 +99,5 @@ fn refusals_by_number() {
         assert_eq!(refusal.number() as usize, at + 1);
         assert_eq!(Refusal::of(refusal.number()), Some(*refusal));
     }
-    assert_eq!((Refusal::of(0), Refusal::of(26)), (None, None));
+    assert_eq!((Refusal::of(0), Refusal::of(25)), (None, None));
 }

@@ -72,12 +72,6 @@ fn streams(holding: &Holding) -> Vec<Vec<u8>> {
     edits.iter().chain([&whole]).map(|edit| [edit, &[himm::REFRESH][..]].concat()).collect()
 }
 
-/// Pairs of some of a book's states.
-fn pairs(states: &[u32]) -> Vec<(u32, u32)> {
-    let some: Vec<u32> = states.iter().copied().step_by(1 + states.len() / 12).collect();
-    some.iter().flat_map(|&from| some.iter().map(move |&to| (from, to))).collect()
-}
-
 /// The most of several depths.
 fn deepest(depths: impl IntoIterator<Item = usize>) -> usize {
     depths.into_iter().max().unwrap_or(0)
@@ -103,14 +97,16 @@ fn writing(layout: Layout, holding: &Holding) -> [(&'static str, usize); 5] {
     ]
 }
 
-/// Every call that only reads one and has both layouts.
+/// Every call that only reads one.
 fn reading(layout: Layout, holding: &Holding) -> [(&'static str, usize); 7] {
     let (b, s, states) = (laid(layout, &holding.book), &holding.sheet, states(&holding.tree()));
     let (first, last) = (states[0], states[states.len() - 1]);
     let (mut plan, mut out, list) = ([0; himm::PLAN_BYTES], vec![0; himm::STREAM_BYTES], [0, 1, 2, 1, 0, 3]);
     let mut walkers = [first, last, first];
+    let some: Vec<u32> = states.iter().copied().step_by(1 + states.len() / 12).collect();
+    let pairs = some.iter().flat_map(|&from| some.iter().map(move |&to| (from, to)));
     [
-        ("plan", deepest(pairs(&states).into_iter().map(|(from, to)| depth(|| layout.plan(&b, s, from, to, &mut plan).is_ok())))),
+        ("plan", deepest(pairs.map(|(from, to)| depth(|| layout.plan(&b, s, from, to, &mut plan).is_ok())))),
         ("exit", depth(|| layout.exit(&b, s, 1, 0))),
         ("step", depth(|| layout.step(&b, last, 0))),
         ("write", depth(|| layout.write(&b, &mut out).is_ok())),
@@ -121,7 +117,7 @@ fn reading(layout: Layout, holding: &Holding) -> [(&'static str, usize); 7] {
 }
 
 #[test]
-fn every_call_in_both_layouts() {
+fn every_call_that_is_lent_a_book() {
     let holdings = holdings();
     for layout in LAYOUTS {
         let all: Vec<_> = holdings.iter().flat_map(|h| writing(layout, h).into_iter().chain(reading(layout, h))).collect();
@@ -132,21 +128,6 @@ fn every_call_in_both_layouts() {
             assert!(layout == Layout::ByNode || most > A_BOOK, "{name}: {most} bytes, less than a turned book");
         }
     }
-}
-
-/// Reach, which takes books by node alone, where there is a way and where there is none.
-#[test]
-fn reach() {
-    let (mut out, mut most, mut lists) = ([0; himm::NODES], 0, 0);
-    for holding in holdings() {
-        for (from, to) in pairs(&states(&holding.tree())) {
-            let mut call = || himm::reach(&holding.book, &holding.sheet, from, to, &mut out).is_ok();
-            lists += call() as usize;
-            most = most.max(depth(call));
-        }
-    }
-    println!("{:<12} {:?}: {most} bytes", "reach", Layout::ByNode);
-    assert!(most < allowed() && lists > 50, "{most} bytes of stack, {lists} lists");
 }
 
 #[test]

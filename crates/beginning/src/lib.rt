@@ -1,4 +1,6 @@
 // Begin (document 01, "Loading a stream"): the old tree is emptied, and one machine, as root, is left with its start node.
+#![tactic(auto)]
+
 ghost use Rattle.std.specs.Prelude.{◌<◌};
 ghost use Rattle.definitions.specs.Limits.{machines, nodes};
 ghost use Rattle.definitions.specs.Book.{tree_of};

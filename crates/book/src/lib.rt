@@ -1,5 +1,7 @@
 // The words of a book (document 01, "Book and sheet in memory"; document 02, W-205, W-207), read and written one at a time. A book here has its 5,057
 // words, and numbers are in range; what a word says is then what the book's tree says, and a store changes one field of that tree.
+#![tactic(auto)]
+
 ghost use Rattle.std.specs.Prelude.{◌≡◌, ◌/◌, ◌%◌, ◌<◌, length, get_or};
 ghost use Rattle.definitions.specs.Limits.{machines, nodes, commands, costs, book_length};
 ghost use Rattle.definitions.specs.Tree.{with_root, with_holder, with_start_of, with_owner, with_below, with_node_hold, with_leave, on_hold};

@@ -1,7 +1,11 @@
 // Document 01's examples of calls on books, run: the mast book's words are stored by hand, and each line says what a call answered.
-use libc::STDOUT_FILENO;
+#![tactic(auto)]
+
 use stepping::StepAnswer;
 use writing::WriteAnswer;
+
+// The descriptor of standard output.
+const STDOUT_FILENO: i32 = 1;
 
 // A book and a sheet.
 type Book = [u32; book::BOOK];

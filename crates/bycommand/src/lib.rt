@@ -1,5 +1,7 @@
 // The calls on a book by command (document 02, W-209): each turns the lent book, makes the call on it by node, and turns back what it writes. A
 // list of another length is handed on as it is (Merge returns 1), so each call refuses what it refuses by node, in the same order.
+#![tactic(auto)]
+
 ghost use Rattle.definitions.specs.Open.{fresh, ladder, table};
 ghost use Rattle.definitions.specs.Calls.{OpenSays, LoadSays, ExitSays, StepSays, PlanSays};
 ghost use Rattle.definitions.specs.Write.{WriteSays};

@@ -1,4 +1,6 @@
 // Choose: the used part of the cheaper of two lists of commands (document 01, "Writing, choosing, the session").
+#![tactic(auto)]
+
 ghost use Rattle.std.specs.Prelude.{◌≡◌, ◌<◌, min, length, get_or};
 ghost use Rattle.std.proofs.Math.Option.{none};
 ghost use Rattle.definitions.specs.Limits.{longest_list};

@@ -1,5 +1,7 @@
 // Numbers that fall out of use (document 01, "Loading a stream"): their words in book and sheet are left as an unused one has them, the
 // mark of a machine 0. A list has 1 at each number that falls out of use.
+#![tactic(auto)]
+
 ghost use Rattle.std.specs.Prelude.{◌<◌};
 ghost use Rattle.definitions.specs.Limits.{machines, nodes};
 ghost use Rattle.book.specs.Chosen.{chosen, only, up_to};

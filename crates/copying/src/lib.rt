@@ -1,4 +1,6 @@
 // A book copied by its stream (the customer's demand 2): what Write gives, loaded into another holding, is the same book there.
+#![tactic(auto)]
+
 ghost use Rattle.writing.specs.Meaning.{answer_of};
 ghost use Rattle.copying.specs.Copy.{CopySays};
 

@@ -1,5 +1,7 @@
 // The search of a plan (document 01, "Exit, step and plan"): the machines above two nodes are opened, the tables take the moves between
 // their nodes, with exit costs for what lies below, and the least costs over them are one search's. A node's place is its number.
+#![tactic(auto)]
+
 ghost use Rattle.std.specs.Prelude.{◌≡◌, cond, ℕ, ◌+◌, ◌*◌, ◌<◌, eqb, length};
 ghost use Rattle.std.proofs.Math.Option.{some};
 ghost use Rattle.definitions.specs.Limits.{machines, nodes, commands, blank};

@@ -7,7 +7,7 @@ use Prim.Native.Nat.{ℕ}
 use native.Mathlib.Omega.{arith}
 use Rattle.definitions.specs.Basics.{option}
 use Rattle.definitions.specs.Tree.{Tree, Transition}
-use Rattle.definitions.specs.Step.{enter, counting, leaving_of, leaving_all, Arrival, found_at, step, acting}
+use Rattle.definitions.specs.Step.{enter, counting, leaving_all, Arrival, found_at, step, acting}
 use Rattle.definitions.specs.Book.{tree_of}
 use Rattle.definitions.specs.Calls.{Acts, StepActs}
 use Rattle.definitions.proofs.Options.{some_same}

@@ -11,7 +11,7 @@ use Rattle.definitions.specs.Tree.{Tree, Transition, Sound, parent}
 use Rattle.definitions.specs.Step.{counting, found, climb, Arrival}
 use Rattle.definitions.specs.Sheet.{Rows}
 use Rattle.definitions.specs.Truth.{node_exit, move}
-use Rattle.definitions.proofs.Path.{parent_below, Inside, own, Enters, counting_owned, climb_own, climb_top, passed_found}
+use Rattle.definitions.proofs.Path.{Inside, own, Enters, counting_owned, climb_own, climb_top, passed_found}
 use Rattle.definitions.proofs.Inside.{inside_apart}
 use Rattle.definitions.proofs.Local.{Relaxed, move_by}
 use Rattle.definitions.proofs.Potential.{Shut, Lands, here, Frame, Potential, base, potential_enters}

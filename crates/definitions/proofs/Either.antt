@@ -1,13 +1,11 @@
 -- Each call that is lent a book gives the same on either layout (document 02, W-209): there and back changes no word, and the answer is one. Assumes
 -- nothing.
-use mathlib.Core.Path.{◌≡◌, refl, sym, ap, ap₂, ◌∙◌, subst}
+use mathlib.Core.Path.{◌≡◌, sym, ap, ap₂, ◌∙◌, subst}
 use mathlib.Core.Logic.{inl, inr}
-use mathlib.Core.List.{List, [], ◌∷◌}
+use mathlib.Core.List.{List, ◌∷◌}
 use Prim.Native.Nat.{ℕ}
 use lib.ListN.{take}
 use Rattle.definitions.specs.Answer.{Answer}
-use Rattle.definitions.specs.Calls.{LoadAnswer}
-use Rattle.definitions.specs.Choose.{Choice}
 use Rattle.definitions.specs.ByCommand.{by_command, by_node, TurnSays, SameGiven, SameLeft, SameAnswers}
 use Rattle.definitions.proofs.Answers.{open_one, load_one, exit_one, step_one, SamePlan, no_plan, same_cost, plan_one, write_one, choice_one, choose_one, merge_one}
 use Rattle.definitions.proofs.Walks.{open_walkers_one, walk_one}

@@ -1,26 +1,23 @@
 -- A sheet's rows are true exactly where they are so machine by machine: the conditions that can be tested, and document 01's, which
 -- speak of all lists. Assumes nothing.
-use mathlib.Core.Path.{◌≡◌, refl, sym, ◌∙◌, subst}
+use mathlib.Core.Path.{◌≡◌, refl, subst}
 use mathlib.Core.Logic.{⊎_elim}
-use mathlib.Core.Bool.{Bool, true, false}
+use mathlib.Core.Bool.{true, false}
 use mathlib.Core.Option.{Option, none, some}
 use mathlib.Core.List.{[], ◌∷◌, ◌++◌}
-use Prim.Native.Nat.{ℕ, ◌+◌, ◌≤◌, ◌<◌}
+use Prim.Native.Nat.{ℕ, ◌≤◌, ◌<◌}
 use native.Mathlib.Omega.{arith}
-use lib.Dec.{eqb}
-use borrow.Author.Tests.{eq-eqb, ne_eqb, eqb-true}
 use Rattle.definitions.specs.Basics.{Least}
 use Rattle.definitions.specs.Limits.{commands}
 use Rattle.definitions.specs.Tree.{Tree, Transition, Sound, parent}
-use Rattle.definitions.specs.Step.{counting, found, passed, climb, Arrival}
+use Rattle.definitions.specs.Step.{counting, passed, climb, Arrival}
 use Rattle.definitions.specs.Costs.{ExitCost}
 use Rattle.definitions.specs.Sheet.{Rows}
-use Rattle.definitions.specs.Truth.{node_exit, move, LeastInside, TrueMachine, TrueRows}
+use Rattle.definitions.specs.Truth.{move, LeastInside, TrueMachine, TrueRows}
 use Rattle.definitions.proofs.Options.{none_some, some_same, true_false, decided}
-use Rattle.definitions.proofs.Path.{parent_below, enters, enters_state, Inside, own, counting_owned, climb_own, climb_top, passed_found}
+use Rattle.definitions.proofs.Path.{parent_below, enters, enters_state, counting_owned, climb_own, passed_found}
 use Rattle.definitions.proofs.Reaching.{run_on, least_reaches}
-use Rattle.definitions.proofs.Inside.{inside_apart}
-use Rattle.definitions.proofs.Local.{Relaxed, Attained, LocalRows, exit_plain, move_by, move_parts}
+use Rattle.definitions.proofs.Local.{Relaxed, Attained, LocalRows, exit_plain, move_parts}
 use Rattle.definitions.proofs.Potential.{Frame, Potential, Comes, comes, raised_run}
 use Rattle.definitions.proofs.Exits.{exit_parts, start_enters}
 use Rattle.definitions.proofs.Alone.{only, is_only, FilledUnder, only_frame, only_potential}

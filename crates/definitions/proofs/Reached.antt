@@ -1,7 +1,7 @@
 -- What it costs at most to reach a node inside its machine, no more than a plan: of the lists of commands that lead there one passes no state twice. So the costs of
 -- nodes fit their words, those that stand in a sheet and those that a search has found for it. And what leaving a node costs at most. Assumes nothing.
 use mathlib.Core.Path.{◌≡◌, refl, subst}
-use mathlib.Core.Bool.{Bool, true, false}
+use mathlib.Core.Bool.{Bool, false}
 use mathlib.Core.Option.{Option, none, some}
 use Prim.Native.Nat.{ℕ, ◌*◌, ◌≤◌, ◌<◌}
 use native.Mathlib.Omega.{arith}

@@ -14,7 +14,7 @@ use borrow.Author.Tests.{eq-eqb, ne_eqb}
 use Rattle.definitions.specs.Basics.{option, is_some, is_at, count_below, any_of, All, Distinct}
 use Rattle.definitions.specs.Limits.{nodes, commands, costs, levels, largest_step_cost, largest_plan_cost}
 use Rattle.definitions.specs.Tree.{Tree, Transition, Sound, is_state, states, above, path, path_f, level, over}
-use Rattle.definitions.specs.Step.{enter, start_state, counting, leaving_of, Climb, found, passed, past, first_of, look, climb, Arrival, follow, step_in, step, run_in, Moves, passes}
+use Rattle.definitions.specs.Step.{enter, start_state, counting, leaving_of, Climb, found, passed, past, first_of, look, climb, Arrival, follow, step_in, run_in, Moves, passes}
 use Rattle.definitions.specs.Costs.{LeastCost, ExitCost}
 use Rattle.definitions.proofs.Options.{bind_some, none_some, some_same, and_true, equal_or_not, is_at_some, is_some_true}
 use Rattle.definitions.proofs.Path.{Deep, at_root, under, root_holder, deep, path_on, climb_found, enter_enters, enters_state, counting_is, Inside, own, deeper}

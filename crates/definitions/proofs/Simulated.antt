@@ -1,7 +1,7 @@
 -- Of two trees that are alike but for what is below one node, and are left at the same costs, one follows the other: while the first is inside the
 -- node the second waits where the node is entered, and leaves by a cheapest exit of its own when the first does. Assumes nothing.
 use mathlib.Core.Path.{◌≡◌, refl, sym, ◌∙◌, ap, subst}
-use mathlib.Core.Logic.{◌⊎◌, ⊎_elim}
+use mathlib.Core.Logic.{⊎_elim}
 use mathlib.Core.Option.{Option, none, some}
 use mathlib.Core.List.{List, [], ◌∷◌, ◌++◌}
 use Prim.Native.Nat.{ℕ, ◌+◌, ◌≤◌, ◌<◌}

@@ -2,14 +2,14 @@
 use mathlib.Core.Path.{◌≡◌, refl, sym, ◌∙◌, ap}
 use mathlib.Core.Logic.{◌⊎◌, inl, inr, ⊎_elim}
 use mathlib.Core.Bool.{Bool, true, false, cond, not, ◌&&◌, ◌||◌}
-use mathlib.Core.Option.{Option, none, some}
+use mathlib.Core.Option.{some}
 use mathlib.Core.List.{List, [], ◌∷◌}
 use Prim.Native.Nat.{ℕ, zero, suc, ◌<◌}
 use native.Mathlib.Omega.{arith}
 use lib.Dec.{eqb, ltb}
 use borrow.Author.Tests.{lt-ltb, eqb-true}
 use Rattle.definitions.specs.Basics.{option, is_at}
-use Rattle.definitions.specs.Tree.{Tree, Sound}
+use Rattle.definitions.specs.Tree.{Tree}
 use Rattle.definitions.specs.Book.{number, under}
 use Rattle.definitions.specs.Edit.{is_start}
 use Rattle.definitions.specs.Open.{row_count, cell, NextLower, Claimed, table, ComesOf}

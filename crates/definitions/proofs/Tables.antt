@@ -5,7 +5,6 @@ use mathlib.Core.Option.{Option, none, some}
 use mathlib.Core.List.{List}
 use Prim.Native.Nat.{ℕ, zero, suc, ◌<◌}
 use native.Mathlib.Omega.{arith}
-use Rattle.definitions.specs.Basics.{is_at}
 use Rattle.definitions.specs.Tree.{Tree, Transition, Sound}
 use Rattle.definitions.specs.Book.{number}
 use Rattle.definitions.specs.Edit.{is_start}

@@ -14,7 +14,7 @@ use borrow.Author.Tests.{ltb-true, ltb-false, leb-true, eqb-true, ne_eqb, not-tr
 use Rattle.definitions.specs.Basics.{◌>>=◌, option, is_some, is_at, put, iterate, any_below, All, Distinct}
 use Rattle.definitions.specs.Limits.{machines, nodes, commands, absent, blank, longest_chain}
 use Rattle.definitions.specs.Tree.{Tree, Sound, is_state, states}
-use Rattle.definitions.specs.Step.{counting, Arrival, step_in, step, Moves, passes}
+use Rattle.definitions.specs.Step.{counting, Arrival, step, Moves, passes}
 use Rattle.definitions.specs.Costs.{LeastCost, ExitCost}
 use Rattle.definitions.specs.Book.{under, encode}
 use Rattle.definitions.specs.Sheet.{Rows, encode_rows}

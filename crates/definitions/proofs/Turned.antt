@@ -1,19 +1,16 @@
 -- The two layouts of a book (document 02, W-209): where each word of the one stands in the other, and that turning there and back changes none.
 -- Assumes nothing.
-use mathlib.Core.Path.{◌≡◌, refl, sym, ◌∙◌, ap, ap₂}
+use mathlib.Core.Path.{◌≡◌, sym, ◌∙◌, ap}
 use mathlib.Core.Logic.{⊎_elim}
-use mathlib.Core.Bool.{Bool, true, false, cond}
-use mathlib.Core.List.{List, [], ◌∷◌, ◌++◌}
+use mathlib.Core.List.{List, ◌++◌}
 use Prim.Native.Nat.{ℕ, zero, suc, ◌+◌, ◌*◌, ◌-◌, ◌≤◌, ◌<◌}
-use native.Mathlib.Nat.{zero-add}
 use native.Mathlib.Omega.{arith}
-use lib.Dec.{eqb}
 use lib.ListN.{length, get_or, take, drop, length-append, length-drop, take-append-drop, get_or-append}
 use lib.Seq.{length-take-le, get_or-append-add, ext_get_or}
 use borrow.Author.Tests.{eq-eqb, ne_eqb}
-use Rattle.definitions.specs.Limits.{machines, nodes, commands, book_length}
+use Rattle.definitions.specs.Limits.{nodes, commands, book_length}
 use Rattle.definitions.specs.Book.{machine_fields, node_fields, machine_base, node_base, hold_base, leave_base, machine_word, node_word, hold_word, leave_word}
-use Rattle.definitions.specs.ByCommand.{turned, by_command, word_by_command, by_node, TurnsBack}
+use Rattle.definitions.specs.ByCommand.{by_command, word_by_command, by_node, TurnsBack}
 use Rattle.definitions.proofs.Options.{equal_or_not, less_or_not}
 use Rattle.definitions.proofs.Lists.{table, table_length, table_at, section_at, section_same}
 use Rattle.definitions.proofs.Words.{book_words}

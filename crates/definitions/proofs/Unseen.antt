@@ -1,6 +1,6 @@
 -- W-210's claim: what is below a node may be replaced unseen. Assumes nothing.
 use mathlib.Core.Path.{◌≡◌, sym, ◌∙◌, ap, subst}
-use mathlib.Core.Logic.{◌⊎◌, ⊎_elim}
+use mathlib.Core.Logic.{⊎_elim}
 use mathlib.Core.Bool.{true, false, not, or-true}
 use mathlib.Core.Option.{Option, none, some}
 use mathlib.Core.List.{List}

@@ -1,6 +1,8 @@
 // The edits of a stream (document 01, "Loading a stream"), but for begin and remove, on a book and its sheet. Each is done where it is
 // not refused, on a well-formed book and a sheet that is true of it: first the machine edited and all above it are marked and blanked,
 // then the words of the book that differ are written.
+#![tactic(auto)]
+
 ghost use Rattle.std.specs.Prelude.{◌<◌};
 ghost use Rattle.definitions.specs.Limits.{costs};
 ghost use Rattle.definitions.specs.Stream.{Edit};

@@ -1,4 +1,6 @@
 // Exit (document 01, "Exit, step and plan"): the exit cost of a machine for a command, read off a true sheet.
+#![tactic(auto)]
+
 ghost use Rattle.definitions.specs.Calls.{ExitSays};
 ghost use Rattle.exiting.specs.Meaning.{answer_of};
 

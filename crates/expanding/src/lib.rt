@@ -1,5 +1,7 @@
 // A plan's commands (document 01, "Exit, step and plan": "a node opens into its machine's path, and a path opens into its nodes"), from
 // the names that a search leaves and those of a true sheet.
+#![tactic(auto)]
+
 ghost use Rattle.std.specs.Prelude.{◌≡◌, [], ◌∷◌, ◌++◌, ◌+◌, ◌≤◌, ◌<◌, length, set, drop};
 ghost use Rattle.definitions.specs.Limits.{nodes, commands, sheet_length, longest_chain};
 ghost use Rattle.definitions.specs.Book.{word, tree_of};

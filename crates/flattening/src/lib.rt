@@ -1,4 +1,6 @@
 // The step of every state at once (document 01: the step and its charge), as tables of moves; and the least costs from a state by one search over them.
+#![tactic(auto)]
+
 ghost use Rattle.std.specs.Prelude.{◌≡◌, ℕ, ◌+◌, ◌≤◌, ◌<◌, length};
 ghost use Rattle.std.proofs.Math.Option.{some};
 ghost use Rattle.definitions.specs.Limits.{machines, nodes, commands, levels};

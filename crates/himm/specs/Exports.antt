@@ -8,7 +8,6 @@ use Rattle.definitions.specs.Ladder.{LadderSays}
 use Rattle.definitions.specs.Import.{Reading, took, waited, ImportSays}
 use Rattle.definitions.specs.Choose.{Choice, first, second, ChoiceSays}
 use Rattle.definitions.specs.Walk.{WalkSays}
-use Rattle.definitions.specs.Reach.{ReachSays}
 
 -- what words hold after the call that held `old` before it: the values that an answer gives, in their order; a refusal gives none
 abbrev pub words_after : (values old : List ℕ) → List ℕ
@@ -43,15 +42,12 @@ PlanReturns book sheet a b buffer cost count number buffer' cost' count' =
 abbrev pub ListReturns : (Answer → List ℕ → Type 0) → (size number : ℕ) (out' : List ℕ) (size' : ℕ) → Type 0
 ListReturns Says size number out' size' = Returns (λ answer. Says answer out') (size ∷ []) number (size' ∷ [])
 
--- Write, the generator of ladders (document 02, W-208), and Reach, whose length is the count (W-211)
+-- Write, and the generator of ladders (document 02, W-208)
 abbrev pub WriteReturns : (book out : List ℕ) (size number : ℕ) (out' : List ℕ) (size' : ℕ) → Type 0
 WriteReturns book out = ListReturns (WriteSays book out)
 
 abbrev pub LadderReturns : (depth : ℕ) (out : List ℕ) (size number : ℕ) (out' : List ℕ) (size' : ℕ) → Type 0
 LadderReturns depth out = ListReturns (LadderSays depth out)
-
-abbrev pub ReachReturns : (book sheet : List ℕ) (a b : ℕ) (out : List ℕ) (count number : ℕ) (out' : List ℕ) (count' : ℕ) → Type 0
-ReachReturns book sheet a b out = ListReturns (ReachSays book sheet a b out)
 
 -- Load: the number and both counts, which are always stored
 abbrev pub LoadReturns : List ℕ → List ℕ → List ℕ → ℕ → ℕ → ℕ → List ℕ → List ℕ → Type 0

@@ -1,11 +1,12 @@
 // The public calls for C. Each returns a refusal's number, 0 for none; what a call gives is stored through pointers, and a refusal stores
 // nothing (Load's two counts are always stored). A list passes as a pointer and its length.
+#![tactic(auto)]
+
 ghost use Rattle.definitions.specs.Open.{fresh, ladder, table};
 ghost use Rattle.definitions.specs.Calls.{OpenSays};
 ghost use Rattle.definitions.specs.Merge.{MergeSays};
 ghost use Rattle.definitions.specs.Walk.{OpenWalkersSay};
 ghost use Rattle.himm.specs.Exports.{LoadReturns, LadderReturns, ExitReturns, StepReturns, PlanReturns, WriteReturns, ChooseReturns, TimingReturns, ImportReturns, WalkReturns};
-ghost use Rattle.himm.specs.Exports.{ReachReturns};
 ghost use Rattle.importing.specs.Meaning.{reading_of};
 
 use importing::{Reading, Timing};
@@ -231,21 +232,4 @@ pub extern "C" fn himm_walk(
         cost,
         acted,
     )
-}
-
-// Reach: all states that some list of commands reaches from a state, where none leads to another, by rising node at the front of out, and how many
-// they are. Refuses 1, 2, 3, 13, 6, 7, 14, 15, 25.
-#[unsafe(no_mangle)]
-pub extern "C" fn himm_reach(
-    book: &[u32],
-    sheet: &[u32],
-    from: u32,
-    to: u32,
-    out: &mut [u16],
-    count: &mut u32,
-) -> u32
-    ensures { ReachReturns book.now sheet.now from to out.old count.old result
-        out.new count.new }
-{
-    store::listed(reaching::reach(book, sheet, from, to, out), count)
 }

@@ -6,7 +6,6 @@ ghost use Rattle.exiting.specs.Meaning.{answer_of as exit_of};
 ghost use Rattle.importing.specs.Meaning.{answer_of as importOf};
 ghost use Rattle.ladders.specs.Meaning.{answer_of as rows_of};
 ghost use Rattle.planning.specs.Meaning.{answer_of as plan_of};
-ghost use Rattle.reaching.specs.Meaning.{answer_of as listed_of};
 ghost use Rattle.stepping.specs.Meaning.{answer_of};
 ghost use Rattle.writing.specs.Meaning.{answer_of as written_of};
 ghost use Rattle.himm.specs.Exports.{Stored, choice_gives, count_of, behind_state};
@@ -16,7 +15,6 @@ use exiting::ExitAnswer;
 use importing::ImportAnswer;
 use ladders::LadderAnswer;
 use planning::PlanAnswer;
-use reaching::ReachAnswer;
 use stepping::StepAnswer;
 use writing::WriteAnswer;
 
@@ -103,19 +101,6 @@ pub fn imported(answer: ImportAnswer, length: &mut u32) -> u32
             0
         }
         ImportAnswer::Refused(k) => k,
-    }
-}
-
-// How many states Reach listed.
-pub fn listed(answer: ReachAnswer, count: &mut u32) -> u32
-    ensures { Stored (listed_of answer) (count.old ∷ []) result (count.new ∷ []) }
-{
-    match answer {
-        ReachAnswer::Listed(n) => {
-            *count = n;
-            0
-        }
-        ReachAnswer::Refused(k) => k,
     }
 }
 

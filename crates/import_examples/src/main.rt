@@ -1,8 +1,12 @@
 // Imports, run (document 02, W-203): timings around each place where the cost changes, both zeros, what is not finite, room to the byte, each
 // refusal with the bytes lent for the output; and the bytes loaded into a book, where a step tells the transition.
+#![tactic(auto)]
+
 use importing::{ImportAnswer, Reading, Timing};
-use libc::STDOUT_FILENO;
 use stepping::StepAnswer;
+
+// The descriptor of standard output.
+const STDOUT_FILENO: i32 = 1;
 
 // A book and a sheet.
 type Book = [u32; book::BOOK];

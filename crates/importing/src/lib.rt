@@ -1,4 +1,6 @@
 // The import (document 02, W-203): a node, a command, a target and a timing become the bytes of one stream command.
+#![tactic(auto)]
+
 ghost use Rattle.std.specs.Prelude.{◌≡◌, ℕ, ◌-◌, ◌<◌};
 ghost use Rattle.std.proofs.Math.Option.{none, some};
 ghost use Rattle.definitions.specs.Basics.{Least};

@@ -1,4 +1,6 @@
 // What every machine inherits from the nodes above it, command by command, handed down from the root: a row of words for each machine.
+#![tactic(auto)]
+
 ghost use Rattle.std.specs.Prelude.{◌≡◌, cond, ◌+◌, ◌*◌, ◌<◌, eqb};
 ghost use Rattle.std.proofs.Math.Option.{some};
 ghost use Rattle.definitions.specs.Limits.{nodes, commands, blank};

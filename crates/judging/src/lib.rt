@@ -1,5 +1,7 @@
 // The refusals 6 to 12 and 21 of a command on a well-formed book, in the documents' order (document 01, "Loading a stream"; document 02, W-205,
 // W-207). Each test of a refusal is a function of its own, and a command goes through its tests in turn.
+#![tactic(auto)]
+
 ghost use Rattle.std.specs.Prelude.{◌≡◌, false, not, ◌&&◌, ◌||◌, ℕ, ◌<◌, eqb};
 ghost use Rattle.definitions.specs.Limits.{machines, nodes};
 ghost use Rattle.definitions.specs.Basics.{is_some, option};

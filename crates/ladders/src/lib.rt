@@ -1,4 +1,6 @@
 // Ladders of a caller's own (document 02, W-208): Open from a lent table of rows, and the generator, which writes the ladder's rows for a depth.
+#![tactic(auto)]
+
 ghost use Rattle.std.specs.Prelude.{◌≡◌, cond, ℕ, ◌+◌, ◌*◌, ◌-◌, ◌/◌, ◌%◌, ◌^◌, ◌≤◌, ◌<◌, eqb};
 ghost use Rattle.definitions.specs.Limits.{nodes};
 ghost use Rattle.definitions.specs.Tree.{Tree};

@@ -1,6 +1,8 @@
 // Books by command, run (document 02, W-209): the mast book's words at their places by command; turning there and back, and what it refuses; each
 // call on both layouts with document 01's numbers and each refusal; and every call on random, torn and short books. `same` says that answer and
 // every word left are the same on either layout.
+#![tactic(auto)]
+
 mod both;
 mod calls;
 mod chance;

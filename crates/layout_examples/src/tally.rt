@@ -1,6 +1,8 @@
 // What was counted of each call, and what is written.
 use crate::both::Both;
-use libc::STDOUT_FILENO;
+
+// The descriptor of standard output.
+const STDOUT_FILENO: i32 = 1;
 
 // The calls, and behind them their number.
 pub const FRESH: u32 = 0;

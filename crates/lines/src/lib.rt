@@ -1,5 +1,7 @@
 // The session's input a turn at a time (document 01, "Writing, choosing, the session"): commands are done up to a plan, a refused command or
 // the end of the input, and the line that is printed there is written into a lent list.
+#![tactic(auto)]
+
 ghost use Rattle.std.specs.Prelude.{◌≡◌, [], ◌∷◌, ◌+◌, ◌^◌, ◌≤◌, ◌<◌, length, take};
 ghost use Rattle.definitions.specs.Limits.{plan_buffer};
 ghost use Rattle.definitions.specs.Book.{tree_of, WellFormed};

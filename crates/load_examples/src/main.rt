@@ -1,7 +1,11 @@
 // Streams loaded, run: the mast book is loaded and refreshed, its exit costs are read, also with holds and leaving charges (document 02, W-205,
 // W-207), each refusal of a command is provoked, and sheets with one false word are refused.
+#![tactic(auto)]
+
 use exiting::ExitAnswer;
-use libc::STDOUT_FILENO;
+
+// The descriptor of standard output.
+const STDOUT_FILENO: i32 = 1;
 
 // A book and a sheet.
 type Book = [u32; book::BOOK];

@@ -1,5 +1,7 @@
 // Load (document 01, "Loading a stream"): a stream's commands are read, judged and done one after another, up to its end or the first that is
 // refused.
+#![tactic(auto)]
+
 ghost use Rattle.std.specs.Prelude.{◌≡◌, drop};
 ghost use Rattle.definitions.specs.Book.{tree_of, WellFormed};
 ghost use Rattle.definitions.specs.Sheet.{rows_of};

@@ -1,6 +1,8 @@
 // Marking (document 01, "Loading a stream"): the machine edited and all above it are marked and blanked. The climb stops at the first
 // machine that is marked already: in a true sheet its row is blank, and every machine above it is marked and blank too. The nodes are
 // looked at once, after the climb, and only where it marked a machine.
+#![tactic(auto)]
+
 ghost use Rattle.std.specs.Prelude.{◌≡◌, true, ◌<◌, length};
 ghost use Rattle.definitions.specs.Limits.{machines, nodes, sheet_length};
 ghost use Rattle.definitions.specs.Tree.{UsedNode};

@@ -1,7 +1,11 @@
 // Merges, run (document 02, W-201): the mast book with itself, with the numbers that its machines and nodes get and plans on both halves; the same
 // with holds (W-205) and with leaving charges (W-207); books full to the last number; each refusal, with the words lent for the third book and sheet untouched.
-use libc::STDOUT_FILENO;
+#![tactic(auto)]
+
 use planning::PlanAnswer;
+
+// The descriptor of standard output.
+const STDOUT_FILENO: i32 = 1;
 
 // A book and a sheet.
 type Book = [u32; book::BOOK];

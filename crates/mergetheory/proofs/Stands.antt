@@ -1,6 +1,6 @@
 -- A tree that stands in another at the numbers to which its machines and nodes move: from what the fields are there, least costs are the same.
 -- Assumes nothing.
-use mathlib.Core.Path.{◌≡◌, sym, ◌∙◌, ap, subst₂}
+use mathlib.Core.Path.{◌≡◌, ◌∙◌, ap, subst₂}
 use mathlib.Core.Logic.{⊎_elim}
 use mathlib.Core.Bool.{true}
 use mathlib.Core.Option.{Option, none, some}

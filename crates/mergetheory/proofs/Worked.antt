@@ -11,7 +11,7 @@ use Rattle.definitions.specs.Costs.{LeastCost}
 use Rattle.definitions.specs.Book.{encode}
 use Rattle.definitions.specs.Sheet.{encode_rows}
 use Rattle.definitions.specs.Edit.{any_lowest}
-use Rattle.definitions.specs.Open.{fresh_tree, fresh, open_rows}
+use Rattle.definitions.specs.Open.{fresh_tree, open_rows}
 use Rattle.definitions.specs.Calls.{RightLengths}
 use Rattle.definitions.specs.Mast.{mast_stream, mast_tree}
 use Rattle.definitions.specs.Merge.{Enough, MergeSays, MergeLeaves}

@@ -1,5 +1,7 @@
 // Merge (document 02, W-201): a third book and its sheet from two books. Lists say where the second book's machines and nodes move and which
 // came to a number; then the third book is written word by word, each from the first book, from the second or from the new root.
+#![tactic(auto)]
+
 ghost use Rattle.std.specs.Prelude.{◌≡◌, cond, ◌||◌, ℕ, ◌+◌, ◌<◌, eqb, length, get_or};
 ghost use Rattle.definitions.specs.Limits.{machines, nodes, commands, book_length, absent};
 ghost use Rattle.definitions.specs.Tree.{used_machine, used_node};
@@ -19,7 +21,7 @@ struct RootNodes {
 }
 
 // The new root, its node above the first book's root, its node above the second's, and the number that the second's root moved to.
-#[derive(Drop)]
+#[derive(Clone, Copy)]
 struct NewRoot {
     root: u32,
     first: u32,

@@ -1,5 +1,7 @@
 // Numbers that move in rising order to the lowest that are free (document 02, W-201). A list has a word for each number, and the numbers that have a
 // given word move to those that have another in a second list.
+#![tactic(auto)]
+
 ghost use Rattle.std.specs.Prelude.{◌≡◌, ℕ, suc, ◌≤◌, ◌<◌, length};
 ghost use Rattle.definitions.specs.Basics.{count_below};
 ghost use Rattle.definitions.specs.Limits.{absent};

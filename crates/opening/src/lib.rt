@@ -1,5 +1,7 @@
 // Opening (document 01): a book and a sheet written whole from a table of rows. Both openings are 'open these rows', and differ in
 // their table alone.
+#![tactic(auto)]
+
 ghost use Rattle.std.specs.Prelude.{◌≡◌, List, ℕ, ◌+◌, ◌*◌, ◌-◌, ◌^◌, ◌≤◌, ◌<◌, eqb, length};
 ghost use Rattle.definitions.specs.Limits.{machines, nodes, book_length, sheet_length, absent};
 ghost use Rattle.definitions.specs.Tree.{used_machine};

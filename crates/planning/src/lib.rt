@@ -1,4 +1,6 @@
 // Plan (document 01, "Exit, step and plan"): a cheapest list of commands from one state to another.
+#![tactic(auto)]
+
 ghost use Rattle.std.specs.Prelude.{◌≡◌, cond, true, false, ℕ, ◌-◌, ◌<◌, length};
 ghost use Rattle.definitions.specs.Limits.{nodes, sheet_length};
 ghost use Rattle.definitions.specs.Tree.{is_state, states};

@@ -1,14 +1,18 @@
 // A session on standard output (document 01, "Writing, choosing, the session"): turns from a book opened fresh to the end of the input, the
 // line of each written. That the turns are the session's, and how many lines they make, is promised; that each line's bytes reach standard
 // output, once and in this order, no promise can say, and is seen by running.
+#![tactic(auto)]
+
 ghost use Rattle.definitions.specs.Book.{tree_of, WellFormed};
 ghost use Rattle.definitions.specs.Sheet.{rows_of};
 ghost use Rattle.definitions.specs.Truth.{TrueSheet};
 ghost use Rattle.definitions.specs.Open.{fresh_tree, open_rows};
 ghost use Rattle.printing.specs.Meaning.{OpenedFresh, LinesMade, SessionMade};
 
-use libc::STDOUT_FILENO;
 use lines::Turn;
+
+// The descriptor of standard output.
+const STDOUT_FILENO: i32 = 1;
 
 // How many bytes of its input a session reads.
 pub const INPUT: usize = 65536;

@@ -2,6 +2,8 @@
 // some are opened from random tables, and damaged tables are refused. All that Open, Load and Plan answer and leave is compared with a station
 // of the test's own, kept from the tables' rows and the streams' bytes alone, and with a flat search on it. Then document 01's examples of
 // plan buffers and numbers of nodes on the mast book, the longest plan that there can be, and the dearest.
+#![tactic(auto)]
+
 mod chance;
 mod compare;
 mod edits;

@@ -15,7 +15,7 @@ pub type Bytes = [u8; 8192];
 const UNKNOWN: usize = 9;
 
 // A command with its operands; those that it does not have are 0.
-#[derive(Drop)]
+#[derive(Clone, Copy)]
 pub struct Order {
     pub op: u32,
     pub machine: u32,

@@ -1,5 +1,7 @@
 // What was counted for a shape, and the lines that are written.
-use libc::STDOUT_FILENO;
+
+// The descriptor of standard output.
+const STDOUT_FILENO: i32 = 1;
 
 // All places.
 pub const PLACES: usize = 82;

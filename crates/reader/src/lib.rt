@@ -1,5 +1,7 @@
 // A reading of a stream (document 01, "Loading a stream"): its bytes and how many of them are taken. The struct is made and taken apart here;
 // every other caller uses `command_at`, whose parameters are plain.
+#![tactic(auto)]
+
 ghost use Rattle.std.specs.Prelude.{◌≡◌};
 ghost use Rattle.reading.specs.Meaning.{NextRead};
 

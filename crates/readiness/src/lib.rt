@@ -1,5 +1,7 @@
 // What calls between two states of a whole holding begin with: a book that is well formed, a sheet that is true and has no stale machine, two
 // states; and how many states there are.
+#![tactic(auto)]
+
 ghost use Rattle.std.specs.Prelude.{◌≡◌, cond, true, ℕ, ◌<◌, length};
 ghost use Rattle.definitions.specs.Limits.{nodes, sheet_length};
 ghost use Rattle.definitions.specs.Tree.{is_state, states};

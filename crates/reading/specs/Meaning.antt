@@ -12,7 +12,6 @@ use Rattle.reading.specs.declared.Operands.{Operands}
 use Rattle.reading.specs.declared.Operands.TheVariants.{Bytes, Unknown}
 use Rattle.reading.specs.declared.Decoded.{Decoded}
 use Rattle.reading.specs.declared.Decoded.TheVariants.{Known}
-use Rattle.reading.specs.declared.Decoded.TheVariants as Decoded
 use Rattle.reading.specs.declared.Read.{Read}
 use Rattle.reading.specs.declared.Read.TheVariants.{Ended, Taken, Refused}
 

@@ -1,11 +1,13 @@
 // The next command of a stream (document 01, "Loading a stream"). A stream is its bytes and how many of them are taken.
+#![tactic(auto)]
+
 ghost use Rattle.std.specs.Prelude.{◌≡◌, ◌+◌, ◌<◌, length, drop};
 ghost use Rattle.definitions.specs.Stream.{operand_length, byte_at, pair_at, decode};
 ghost use Rattle.reading.specs.Column.{place, entry};
 ghost use Rattle.reading.specs.Meaning.{place_of, operands_of, decoded_of, NarrowDecoded, Whole, NextRead};
 
 // The eleven commands of a stream, with their operands.
-#[derive(Drop)]
+#[derive(Clone, Copy)]
 pub enum Command {
     Begin {
         machine: u32,

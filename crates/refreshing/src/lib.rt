@@ -1,5 +1,7 @@
 // Refresh (document 01, "Loading a stream"): every stale row is filled and is stale no more, the lowest machines first. The nodes of one
 // machine stand at places 0 to k - 1, and the least costs over them are one search's.
+#![tactic(auto)]
+
 ghost use Rattle.std.specs.Prelude.{◌≡◌, ℕ, ◌+◌, ◌-◌, ◌≤◌, ◌<◌, length};
 ghost use Rattle.definitions.specs.Limits.{machines, nodes, commands, sheet_length, largest_plan_cost};
 ghost use Rattle.definitions.specs.Book.{number, tree_of, WellFormed};

@@ -1,5 +1,7 @@
 // Remove (document 01, "Loading a stream"): a node, all below it and the transitions into it. The machines that go are found first, by a
 // climb from each machine; then every node is looked at once.
+#![tactic(auto)]
+
 ghost use Rattle.std.specs.Prelude.{◌≡◌, ◌<◌, eqb, length};
 ghost use Rattle.definitions.specs.Limits.{machines, nodes, commands, book_length, sheet_length};
 ghost use Rattle.definitions.specs.Tree.{UsedNode};

@@ -2,6 +2,8 @@
 // node 1; the mast book and the same with one transition less, which misses the hypothesis by one command. Then random pairs of books, alike but for
 // what is below a node: whether they meet the hypothesis, every least cost between states outside the node by a flat search of the program's own, and
 // from one of these states by Plan too.
+#![tactic(auto)]
+
 mod chance;
 mod compare;
 mod flat;

@@ -1,5 +1,7 @@
 // What was counted, and what is written.
-use libc::STDOUT_FILENO;
+
+// The descriptor of standard output.
+const STDOUT_FILENO: i32 = 1;
 
 // Of pairs of books that meet the hypothesis, and behind them of those that miss it: the pairs of books, those with a cheapest list through the node, and
 // those with a least cost that differs; the pairs of states, those with no way, those with a cheapest list through the node, and those whose

@@ -1,8 +1,12 @@
 // The whole run of demand 3, run: openings and lists of streams, refused commands among them, with the plan after them; and each refusal. The
 // rows of a table (document 02, W-208) are three words each: owner, machine below, and 1 for a start.
-use libc::STDOUT_FILENO;
+#![tactic(auto)]
+
 use planning::PlanAnswer;
 use wholerun::{Opening, RunAnswer};
+
+// The descriptor of standard output.
+const STDOUT_FILENO: i32 = 1;
 
 // Writes a space and a number.
 fn number(n: u64) {

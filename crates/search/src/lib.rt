@@ -1,5 +1,7 @@
 // Least costs from one source over at most 256 nodes with 16 moves each, given as two tables (Dijkstra's search). Nodes are settled one after
 // the other, the nearest first. The reached nodes stand in a list, each once: the first n are settled, in their order, and the others wait.
+#![tactic(auto)]
+
 ghost use Rattle.std.specs.Prelude.{◌≡◌, ◌+◌, ◌*◌, ◌≤◌, ◌<◌, cond, ltb, leb, length, get_or};
 ghost use Rattle.definitions.specs.Limits.{nodes, commands};
 ghost use Rattle.search.specs.Search.{largest_move, unreached, row_move, Tables, Room, Searched};

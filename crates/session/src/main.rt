@@ -1,5 +1,8 @@
 // The session program (document 01, "Writing, choosing, the session"): up to 65,536 bytes of standard input, and their lines on standard output.
-use libc::STDIN_FILENO;
+#![tactic(auto)]
+
+// The descriptor of standard input.
+const STDIN_FILENO: i32 = 0;
 
 fn main() {
     let mut input = io::large_buffer();

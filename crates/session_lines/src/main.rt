@@ -1,5 +1,8 @@
 // Sessions on stored inputs, run: each kind of line that a session prints, and whether it goes on after it.
-use libc::STDOUT_FILENO;
+#![tactic(auto)]
+
+// The descriptor of standard output.
+const STDOUT_FILENO: i32 = 1;
 
 // Writes a text, then the lines of a session on an input.
 fn show(text: &[u8], input: &[u8]) {

@@ -1,6 +1,8 @@
 // The words of a sheet (document 01, "Book and sheet in memory"), read and written one at a time. A sheet here has its 2,880 words, and
 // numbers are in range; what a word says is then what the sheet's rows say, and a store changes one field of those rows. BLANK and ABSENT
 // are the book's. From book and sheet together: what leaving a node costs.
+#![tactic(auto)]
+
 ghost use Rattle.std.specs.Prelude.{◌≡◌, cond, ◌+◌, ◌*◌, ◌%◌, ◌<◌, eqb, length, set};
 ghost use Rattle.definitions.specs.Limits.{machines, nodes, commands, book_length, sheet_length, absent};
 ghost use Rattle.definitions.specs.Book.{word, number, tree_of};

@@ -1,4 +1,6 @@
 // One command at a state of a well-formed book (document 01, "The tree and its step").
+#![tactic(auto)]
+
 ghost use Rattle.std.specs.Prelude.{◌≡◌, cond, ◌<◌};
 ghost use Rattle.std.proofs.Math.Option.{none, some};
 ghost use Rattle.definitions.specs.Limits.{nodes, commands};

@@ -1,5 +1,7 @@
 // Bytes, numbers of 16 bits and words stored one after the other in a lent list. A store goes as far as the list does and gives the next place, so
 // that what is too long is measured and not written.
+#![tactic(auto)]
+
 ghost use Rattle.std.specs.Prelude.{[], ◌∷◌, ◌++◌, ◌+◌, ◌<◌, ◌^◌};
 ghost use Rattle.definitions.specs.Limits.{nodes, commands};
 ghost use Rattle.definitions.specs.Write.{pair, arrow_bytes};

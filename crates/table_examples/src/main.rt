@@ -1,9 +1,13 @@
 // Tables opened, run (document 02, W-208): the generator's tables for every depth, with plans on what they open, and that of depth 6 against
 // Open ladder; a table with gaps, its book and a plan; each kind of table that does not open, and each length that is wrong. A row is owner,
 // machine below and 1 for a start; 65535 is "none".
+#![tactic(auto)]
+
 use ladders::LadderAnswer;
-use libc::STDOUT_FILENO;
 use planning::PlanAnswer;
+
+// The descriptor of standard output.
+const STDOUT_FILENO: i32 = 1;
 
 // A book and a sheet.
 type Book = [u32; book::BOOK];

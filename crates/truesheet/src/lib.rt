@@ -1,5 +1,7 @@
 // Whether a sheet is true (document 01, "Book and sheet in memory"; refusal 3). The words of a sheet may say anything here, so a name is
 // looked at before it is an index, and costs are added in 64 bits.
+#![tactic(auto)]
+
 ghost use Rattle.std.specs.Prelude.{◌≡◌, ◌≤◌, ◌<◌, length, get_or};
 ghost use Rattle.definitions.specs.Limits.{machines, nodes, commands, sheet_length, longest_chain};
 ghost use Rattle.definitions.specs.Step.{counting};

@@ -1,4 +1,6 @@
 // Turning a book from one layout into the other (document 02, W-209): its transitions by node, as document 01 has them, or by command.
+#![tactic(auto)]
+
 ghost use Rattle.std.specs.Prelude.{◌≡◌, List, ℕ, ◌+◌, ◌*◌, ◌≤◌, ◌<◌, length, get_or};
 ghost use Rattle.definitions.specs.Limits.{nodes, commands, book_length};
 ghost use Rattle.definitions.specs.Book.{node_fields, node_base, hold_base};

@@ -1,7 +1,11 @@
 // Walkers, run (document 02, W-206): on the mast book, whose node 1 holds the states 10 and 11. A line says what a call answered, a refusal as `no`
 // and its number, and then where the walkers stand.
-use libc::STDOUT_FILENO;
+#![tactic(auto)]
+
 use stepping::StepAnswer;
+
+// The descriptor of standard output.
+const STDOUT_FILENO: i32 = 1;
 
 // A book and a sheet.
 type Book = [u32; book::BOOK];

@@ -1,5 +1,7 @@
 // Walkers (document 02, W-206): up to 8, each at a state of one book, of which at most so many may be inside one node. What a call is handed is
 // judged anew each time.
+#![tactic(auto)]
+
 ghost use Rattle.std.specs.Prelude.{◌≡◌, not, ◌&&◌, ◌≤◌, ◌<◌, length};
 ghost use Rattle.definitions.specs.Basics.{All};
 ghost use Rattle.definitions.specs.Limits.{nodes, commands, most_walkers};
@@ -16,7 +18,7 @@ use stepping::StepAnswer;
 const WALKERS: u32 = 8;
 
 // What is asked of a number: that it is a node's, that the node is in use, that it is plain.
-#[derive(Drop)]
+#[derive(Clone, Copy)]
 enum Asked {
     InRange,
     Used,
@@ -24,7 +26,7 @@ enum Asked {
 }
 
 // A walker: its record is its state.
-#[derive(Drop)]
+#[derive(Clone, Copy)]
 struct Walker {
     state: u32,
 }

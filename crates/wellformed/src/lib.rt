@@ -1,5 +1,7 @@
 // Whether a book is well formed (document 01, "Book and sheet in memory"; document 02, W-205, W-207; refusal 2). The words of a book may say anything
 // here, so a number is looked at before it is an index.
+#![tactic(auto)]
+
 ghost use Rattle.std.specs.Prelude.{◌≡◌, ◌<◌, length};
 ghost use Rattle.definitions.specs.Limits.{machines, nodes, commands, levels, book_length};
 ghost use Rattle.definitions.specs.Tree.{parent};

@@ -112,8 +112,8 @@ loads_refreshed : {t : Tree} {book sheet book' sheet' : List ℕ} (streams : Lis
 unfolding expected
 loads_refreshed {t} {book' = book'} {sheet' = sheet'} [] kept bytes (Loads.then says Loads.done) =
     subst (λ (o : Outcome). PlanReady o.tree book' sheet') (sym (load_refresh t)) (refresh_done kept says)
-loads_refreshed (stream ∷ streams) kept bytes (Loads.then says rest) =
-    loads_refreshed streams (loaded kept stream bytes.0 says) bytes.1 rest
+loads_refreshed {t} (stream ∷ streams) kept bytes (Loads.then says rest) =
+    loads_refreshed {t = (load t stream).tree} streams (loaded kept stream bytes.0 says) bytes.1 rest
 
 -- from a holding just opened
 pub prepared : (o : Opening) (streams : List (List ℕ)) → All Bytes streams → (lent lent_sheet : List ℕ) {opened_book opened_sheet book sheet : List ℕ}

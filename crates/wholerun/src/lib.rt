@@ -1,4 +1,6 @@
 // The whole of demand 3 as one call: a holding is opened, loaded stream by stream, refreshed, and asked for a plan.
+#![tactic(auto)]
+
 ghost use Rattle.std.specs.Prelude.{◌≡◌, [], ◌∷◌, length};
 ghost use Rattle.definitions.specs.Calls.{OpenSays};
 ghost use Rattle.definitions.specs.Basics.{as_it_is};

@@ -1,4 +1,6 @@
 // The stream that Write gives for the tree of a well-formed book (document 01, "Writing, choosing, the session"; document 02, W-205, W-207).
+#![tactic(auto)]
+
 ghost use Rattle.std.specs.Prelude.{◌≡◌, ◌∷◌, ◌++◌, ◌+◌, ◌*◌, ◌/◌, ◌%◌, ◌^◌, ◌≤◌, ◌<◌, length, drop};
 ghost use Rattle.definitions.specs.Basics.{joined};
 ghost use Rattle.definitions.specs.Limits.{machines, nodes, commands, levels};

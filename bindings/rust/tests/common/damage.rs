@@ -46,7 +46,6 @@ pub fn each_call(holding: &Holding, view: &View) {
     holding.compare_exit(view, 0, 1);
     holding.compare_step(view, 0, 2);
     holding.compare_plan(view, 0, 2, himm::PLAN_BYTES);
-    holding.compare_reach(view, 0, 2, himm::NODES);
     holding.compare_write(view);
     holding.compare_choice(view, 0, 2, &[0, 2, 1], &[2]);
     holding.clone().load(&[himm::REFRESH]);

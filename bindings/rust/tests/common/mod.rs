@@ -1,5 +1,5 @@
-//! Each call made by the library, in both layouts of a book where it has both, and by the model, with everything that it gives and leaves
-//! compared.
+//! Each call made by the library, in both layouts of a book where it is lent one, and by the model, with everything that it gives and
+//! leaves compared.
 #![allow(dead_code)]
 
 pub mod damage;
@@ -23,9 +23,8 @@ use std::fmt::Debug;
 const UNTOUCHED: u32 = 0xdead_beef;
 /// The same for Step's state, cost and node: three different words, so that a refused step that copies one to another shows.
 pub const UNTOUCHED_STEP: [u32; 3] = [UNTOUCHED, UNTOUCHED + 1, UNTOUCHED + 2];
-/// What a buffer holds before a call, and an output for states, which is no node's number.
+/// What a buffer holds before a call.
 const FILLER: u8 = 0xa5;
-const NO_STATE: u16 = 0xa5a5;
 /// How many bytes or words stand behind an output's end, which no call may touch.
 const BEHIND: usize = 16;
 
@@ -48,14 +47,6 @@ pub fn mast(more: &str) -> Holding {
 pub fn plan(holding: &Holding, from: u32, to: u32) -> Result<(u32, Vec<u8>), Refusal> {
     let mut buffer = [0; himm::PLAN_BYTES];
     himm::plan(&holding.book, &holding.sheet, from, to, &mut buffer).map(|plan| (plan.cost, plan.commands.to_vec()))
-}
-
-/// The states that Reach lists; the numbers behind them are untouched.
-pub fn reach(holding: &Holding, from: u32, to: u32) -> Result<Vec<u16>, Refusal> {
-    let mut out = [NO_STATE; himm::NODES];
-    let count = himm::reach(&holding.book, &holding.sheet, from, to, &mut out)?.len();
-    assert!(out[count..].iter().all(|&number| number == NO_STATE), "reach {from} {to} wrote past its list");
-    Ok(out[..count].to_vec())
 }
 
 /// What a load of further commands into the mast book answers: bytes, commands and the refusal or 0.
@@ -363,21 +354,6 @@ impl Holding {
             call(b.as_ptr(), b.len(), s.as_ptr(), s.len(), from, to, at, length, &mut cost, &mut count)
         };
         (number, [cost, count], plan)
-    }
-
-    /// Reach by the call for C and by the safe one, into an output of so many numbers: the refusal or the list is the model's, and neither
-    /// book nor sheet is written. Gives the refusal or 0.
-    pub fn compare_reach(&self, view: &View, from: u32, to: u32, room: usize) -> u32 {
-        let expected = view.whole.as_ref().map_err(|&k| k).and_then(|tree| calls::reach(tree, &self.sheet, from, to, room));
-        let (lent, mut out) = (self.clone(), vec![NO_STATE; room]);
-        let (b, s) = ((lent.book.as_ptr(), lent.book.len()), (lent.sheet.as_ptr(), lent.sheet.len()));
-        compare_output(&("reach", from, to), room, NO_STATE, &expected, |out, count| unsafe {
-            raw::himm_reach(b.0, b.1, s.0, s.1, from, to, out, room, count)
-        });
-        let safe = himm::reach(&lent.book, &lent.sheet, from, to, &mut out);
-        assert_eq!(safe.map_err(Refusal::number), expected.as_deref().map_err(|&k| k), "reach {from} {to} into room for {room}");
-        assert!(lent == *self, "reach {from} {to} wrote the book or the sheet");
-        expected.err().unwrap_or(0)
     }
 
     /// Write with room to spare, with just enough, with one byte too few and with none.

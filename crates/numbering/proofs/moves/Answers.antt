@@ -71,12 +71,12 @@ loop-d-preserved c =
     let q = has a.other.now a.w in (
       omega arith,
       elim c.if-list-d.branch [
-        then-list-d w ↦
-          rw (w.out-is, w.next-is)
-          (upto_moves c.loop-d.invariant.1 h (eq-eqb _ _ w.if-list-d.true)
-          (subst (λ k. w.after.result ≡ word (ranked k q (suc (count_below c.loop-d.d p)))) c.requires.1
-          (w.after.ensures (count_below c.loop-d.d p)
-          (subst (λ k. c.loop-d.next ≡ word (ranked k q (count_below c.loop-d.d p))) (sym c.requires.1) c.loop-d.invariant.1.coming))))
+        | then-list-d w ↦
+            rw (w.out-is, w.next-is)
+            (upto_moves c.loop-d.invariant.1 h (eq-eqb _ _ w.if-list-d.true)
+            (subst (λ k. w.after-next.result ≡ word (ranked k q (suc (count_below c.loop-d.d p)))) c.requires.1
+            (w.after-next.ensures (count_below c.loop-d.d p)
+            (subst (λ k. c.loop-d.next ≡ word (ranked k q (count_below c.loop-d.d p))) (sym c.requires.1) c.loop-d.invariant.1.coming))))
         | else-list-d w ↦ rw (w.out-is, w.next-is) (upto_stays c.loop-d.invariant.1 h (ne_eqb _ _ w.if-list-d.false))
       ],
     )

@@ -31,7 +31,7 @@ loop-m-preserved c =
       omega arith,
       rw (add-one loop.m)
           (elim c.if-is_free.branch [
-            then-is_free w ↦ w.r-is ∙ ap word (sym (last_pass loop.m p (test ∙ w.if-is_free.true)))
+            | then-is_free w ↦ w.r-is ∙ ap word (sym (last_pass loop.m p (test ∙ w.if-is_free.true)))
             | else-is_free w ↦ w.r-is ∙ loop.invariant.1 ∙ ap word (sym (last_skip loop.m p (test ∙ w.if-is_free.false)))
           ]),
     )

@@ -1,6 +1,5 @@
 -- `reading::byte` meets its contract: a byte fits. Assumes nothing.
 use mathlib.Core.Path.{refl}
-use borrow.Author.Rules.{rules}
 use native.Mathlib.Omega.{arith}
 use Rattle.reading.proofs.byte.Goals as goal
 

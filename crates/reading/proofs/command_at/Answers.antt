@@ -2,7 +2,6 @@
 use mathlib.Core.Path.{◌≡◌, sym, ◌∙◌, ap, subst}
 use mathlib.Core.Option.{some}
 use native.Mathlib.Omega.{arith}
-use borrow.Author.Rules.{rules}
 use Rattle.definitions.specs.Stream.{operand_length}
 use Rattle.definitions.proofs.Options.{some_same}
 use Rattle.reading.specs.Meaning.{operands_of, decoded_of, NarrowDecoded}

@@ -1,7 +1,6 @@
 -- `reading::locate` meets its contract: an opcode from 0x10 to 0x18, one past 0x19, 0x19, or one below 0x10. Assumes nothing.
 use mathlib.Core.Path.{sym}
 use native.Mathlib.Omega.{arith}
-use borrow.Author.Rules.{rules}
 use Rattle.reading.proofs.Column.{place_from, place_on, place_below, place_gap}
 use Rattle.reading.proofs.locate.Goals as goal
 

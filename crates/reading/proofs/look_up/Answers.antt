@@ -2,7 +2,6 @@
 use mathlib.Core.Path.{◌≡◌, sym, ◌∙◌, ap}
 use mathlib.Core.Option.{some}
 use native.Mathlib.Omega.{arith}
-use borrow.Author.Rules.{rules}
 use Rattle.reading.specs.Column.{place}
 use Rattle.reading.specs.Meaning.{place_of}
 use Rattle.reading.proofs.Column.{entry_in, entry_behind, no_entry}

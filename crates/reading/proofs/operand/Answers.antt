@@ -1,6 +1,5 @@
 -- `reading::operand` meets its contract: an operand stands behind the opcode. Assumes nothing.
 use mathlib.Core.Path.{sym, ◌∙◌}
-use borrow.Author.Rules.{rules}
 use Prim.Native.Nat.{◌+◌}
 use lib.Seq.{get_or-drop}
 use Rattle.reading.proofs.operand.Goals as goal

@@ -1,6 +1,5 @@
 -- `reading::operand_length` meets its contract: its column passes the test, and so says the length of every opcode. Assumes nothing.
 use mathlib.Core.Path.{refl, ◌∙◌}
-use borrow.Author.Rules.{rules}
 use Rattle.definitions.specs.Stream.{operand_length}
 use Rattle.definitions.proofs.Tests.{all_below}
 use Rattle.reading.specs.Column.{place}

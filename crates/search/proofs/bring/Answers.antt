@@ -3,7 +3,6 @@ use native.Mathlib.Omega.{arith}
 use lib.ListN.{set, length-set}
 use Rattle.search.proofs.Stores.{put_set}
 use Rattle.search.proofs.Picking.{swapped}
-use borrow.Author.Rules.{rules}
 use Rattle.search.proofs.bring.Goals as goal
 
 pub bounds-order-n-2 : goal.bounds-order-n-2

@@ -1,8 +1,8 @@
 -- `search::fill` meets its contract: below the node in hand the words are blank, and from it on they are as they were. Assumes nothing.
 use mathlib.Core.Path.{◌≡◌, refl, ◌∙◌, subst}
-use Prim.Native.Nat.{ℕ, ◌≤◌, ◌-◌}
+use Prim.Native.Nat.{ℕ}
 use native.Mathlib.Omega.{arith}
-use lib.ListN.{length, length-set}
+use lib.ListN.{length-set}
 use Rattle.definitions.specs.Limits.{absent}
 use Rattle.search.specs.Search.{unreached}
 use Rattle.search.specs.Parts.{at}

@@ -1,13 +1,11 @@
 -- `search::fill` meets its contract: below the node in hand the words are blank, and from it on they are as they were. Assumes nothing.
-use mathlib.Core.Path.{◌≡◌, refl, ◌∙◌, subst}
-use Prim.Native.Nat.{ℕ, ◌≤◌, ◌-◌}
-use native.Mathlib.Omega.{arith}
-use lib.ListN.{length, length-set}
+use mathlib.Core.Path.{◌≡◌}
+use Prim.Native.Nat.{◌≤◌, ◌-◌}
+use lib.ListN.{length}
 use Rattle.definitions.specs.Limits.{absent}
 use Rattle.search.specs.Search.{unreached}
 use Rattle.search.specs.Parts.{at}
-use Rattle.search.proofs.Stores.{put_set}
-use Rattle.search.proofs.Filling.{Upto, upto_none, upto_more, filled}
+use Rattle.search.proofs.Filling.{Upto}
 use Rattle.search.proofs.fill.Given as goal
 
 abbrev pub invariant-loop-v : goal.invariant-loop-v

@@ -1,7 +1,6 @@
 -- `search::list` meets its contract: the node is stored where the test holds. Assumes nothing.
 use mathlib.Core.Path.{refl}
 use native.Mathlib.Omega.{arith}
-use borrow.Author.Rules.{rules}
 use borrow.Author.Tests.{le-leb, lt-leb}
 use Rattle.search.specs.Search.{unreached}
 use Rattle.search.proofs.list.Goals as goal

@@ -1,7 +1,6 @@
 -- `search::pick` meets its contract: best is the place of a nearest node among those passed. Assumes nothing.
 use mathlib.Core.Path.{◌≡◌, sym, subst, subst₂}
-use mathlib.Core.Logic.{⊎_elim}
-use Prim.Native.Nat.{ℕ, ◌+◌, ◌≤◌, ◌-◌}
+use Prim.Native.Nat.{ℕ, ◌+◌}
 use native.Mathlib.Omega.{arith}
 use Rattle.search.specs.Parts.{at, Nearest}
 use Rattle.search.proofs.Picking.{Best, best_first, best_kept, best_better}
@@ -38,7 +37,7 @@ loop-i-preserved c =
     let d = c.distance-d.ensures in (
       omega (arith, c.loop-i-test.true),
       elim c.if-d-least.branch [
-        then-d-least w ↦ subst₂ (Best (at a.dist.now) (at a.order.now) a.n (c.loop-i.i + 1)) (sym w.best-is) (sym w.least-is) (best_better b d w.if-d-least.true)
+        | then-d-least w ↦ subst₂ (Best (at a.dist.now) (at a.order.now) a.n (c.loop-i.i + 1)) (sym w.best-is) (sym w.least-is) (best_better b d w.if-d-least.true)
         | else-d-least w ↦ subst₂ (Best (at a.dist.now) (at a.order.now) a.n (c.loop-i.i + 1)) (sym w.best-is) (sym w.least-is) (best_kept b d w.if-d-least.false)
       ],
     )

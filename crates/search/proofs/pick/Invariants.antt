@@ -1,10 +1,7 @@
 -- `search::pick` meets its contract: best is the place of a nearest node among those passed. Assumes nothing.
-use mathlib.Core.Path.{◌≡◌, sym, subst, subst₂}
-use mathlib.Core.Logic.{⊎_elim}
-use Prim.Native.Nat.{ℕ, ◌+◌, ◌≤◌, ◌-◌}
-use native.Mathlib.Omega.{arith}
-use Rattle.search.specs.Parts.{at, Nearest}
-use Rattle.search.proofs.Picking.{Best, best_first, best_kept, best_better}
+use Prim.Native.Nat.{◌≤◌, ◌-◌}
+use Rattle.search.specs.Parts.{at}
+use Rattle.search.proofs.Picking.{Best}
 use Rattle.search.proofs.pick.Given as goal
 
 abbrev pub invariant-loop-i : goal.invariant-loop-i

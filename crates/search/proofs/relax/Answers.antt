@@ -1,7 +1,6 @@
 -- `search::relax` meets its contract: the three words are stored where the test holds. Assumes nothing.
 use mathlib.Core.Path.{refl}
 use borrow.Author.Tests.{lt-ltb, le-ltb}
-use borrow.Author.Rules.{rules}
 use Rattle.search.proofs.relax.Goals as goal
 
 pub returns-then-d-dist : goal.returns-then-d-dist

@@ -1,13 +1,12 @@
 -- `search::relax_all` meets its contract: the moves of the commands passed are relaxed. Assumes nothing.
 use mathlib.Core.Path.{◌≡◌, refl, sym, ◌∙◌, ap, subst}
-use mathlib.Core.Logic.{⊎_elim}
 use mathlib.Core.Option.{some}
-use Prim.Native.Nat.{ℕ, ◌+◌, ◌*◌, ◌≤◌, ◌-◌}
+use Prim.Native.Nat.{ℕ, ◌+◌, ◌*◌}
 use native.Mathlib.Omega.{arith}
-use lib.ListN.{length, get_or}
+use lib.ListN.{get_or}
 use Rattle.definitions.specs.Limits.{commands}
 use Rattle.search.specs.Search.{row_move}
-use Rattle.search.specs.Parts.{at, labels, Relaxed, Listing, Grown}
+use Rattle.search.specs.Parts.{labels, Relaxed}
 use Rattle.search.proofs.Reading.{row_is, row_none}
 use Rattle.search.proofs.Stores.{change_less, relaxed_none, Leads, along, nowhere, relaxed_more, leads_range, leads_inside}
 use Rattle.search.proofs.Listing.{listing_room, grown_none, goes}
@@ -23,7 +22,7 @@ leads c =
     let p = get_or a.price.now (commands * a.u + c.loop-x.x) 0 in
     let same = c.word-t.ensures in
     elim c.if-t-eq-ABSENT.branch [
-      then-t-eq-ABSENT w ↦ nowhere (row_none a.target.now a.price.now a.u c.loop-x.x (sym same ∙ w.if-t-eq-ABSENT.true)) w.v-is
+      | then-t-eq-ABSENT w ↦ nowhere (row_none a.target.now a.price.now a.u c.loop-x.x (sym same ∙ w.if-t-eq-ABSENT.true)) w.v-is
       | else-t-eq-ABSENT w ↦
           along
           (row_is a.target.now a.price.now a.u c.loop-x.x (omega (arith, c.loop-x-test.true))

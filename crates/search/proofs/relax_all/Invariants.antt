@@ -1,16 +1,10 @@
 -- `search::relax_all` meets its contract: the moves of the commands passed are relaxed. Assumes nothing.
-use mathlib.Core.Path.{◌≡◌, refl, sym, ◌∙◌, ap, subst}
-use mathlib.Core.Logic.{⊎_elim}
-use mathlib.Core.Option.{some}
-use Prim.Native.Nat.{ℕ, ◌+◌, ◌*◌, ◌≤◌, ◌-◌}
-use native.Mathlib.Omega.{arith}
-use lib.ListN.{length, get_or}
+use mathlib.Core.Path.{◌≡◌}
+use Prim.Native.Nat.{◌≤◌, ◌-◌}
+use lib.ListN.{length}
 use Rattle.definitions.specs.Limits.{commands}
 use Rattle.search.specs.Search.{row_move}
 use Rattle.search.specs.Parts.{at, labels, Relaxed, Listing, Grown}
-use Rattle.search.proofs.Reading.{row_is, row_none}
-use Rattle.search.proofs.Stores.{change_less, relaxed_none, Leads, along, nowhere, relaxed_more, leads_range, leads_inside}
-use Rattle.search.proofs.Listing.{listing_room, grown_none, goes}
 use Rattle.search.proofs.relax_all.Given as goal
 
 abbrev pub invariant-loop-x : goal.invariant-loop-x

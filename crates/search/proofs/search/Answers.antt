@@ -1,6 +1,5 @@
 -- `search::search` meets its contract: the lists are filled, and the rest is `settle`'s. Assumes nothing.
 use Rattle.search.proofs.Turning.{filled_searched}
-use borrow.Author.Rules.{rules}
 use Rattle.search.proofs.search.Goals as goal
 
 pub returns : goal.returns

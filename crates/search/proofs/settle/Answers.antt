@@ -1,10 +1,8 @@
 -- `search::settle` meets its contract: n nodes are settled, and the list has the reached ones; the measure is how many are not settled.
 -- Assumes nothing.
-use mathlib.Core.Path.{◌≡◌, refl, sym, ◌∙◌}
-use Prim.Native.Nat.{◌+◌, ◌-◌}
+use mathlib.Core.Path.{refl, sym, ◌∙◌}
+use Prim.Native.Nat.{◌+◌}
 use native.Mathlib.Omega.{arith}
-use lib.ListN.{length}
-use Rattle.definitions.specs.Limits.{nodes}
 use Rattle.search.specs.Parts.{labels}
 use Rattle.search.proofs.Turning.{Turns, turns_first, turns_few, turns_places, turns_row, turns_listing, turned, searched_all, searched_goal}
 use Rattle.search.proofs.settle.Goals.{After-relax_all-count}
@@ -73,8 +71,7 @@ loop-n-smaller c =
 
 pub loop-n-preserved : goal.loop-n-preserved
 loop-n-preserved c =
-    let i = c.loop-n.invariant.0 in
-    (
+    let i = c.loop-n.invariant.0 in (
       (c.relax_all-count.auto.dist ∙ i.0, c.relax_all-count.auto.before ∙ i.1, c.relax_all-count.auto.by ∙ i.2, c.relax_all-count.auto.order ∙ c.bring-u.auto.order ∙ i.3),
       settled-more (goal.at.loop-n-preserved c).After-relax_all-count,
     )

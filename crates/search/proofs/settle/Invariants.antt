@@ -1,12 +1,11 @@
 -- `search::settle` meets its contract: n nodes are settled, and the list has the reached ones; the measure is how many are not settled.
 -- Assumes nothing.
-use mathlib.Core.Path.{◌≡◌, refl, sym, ◌∙◌}
-use Prim.Native.Nat.{◌+◌, ◌-◌}
-use native.Mathlib.Omega.{arith}
+use mathlib.Core.Path.{◌≡◌}
+use Prim.Native.Nat.{◌-◌}
 use lib.ListN.{length}
 use Rattle.definitions.specs.Limits.{nodes}
 use Rattle.search.specs.Parts.{labels}
-use Rattle.search.proofs.Turning.{Turns, turns_first, turns_few, turns_places, turns_row, turns_listing, turned, searched_all, searched_goal}
+use Rattle.search.proofs.Turning.{Turns}
 use Rattle.search.proofs.settle.Given as goal
 
 abbrev pub invariant-loop-n : goal.invariant-loop-n

@@ -11,7 +11,7 @@ use Rattle.sheet.proofs.own_exit.Goals as goal
 pub returns-then-own : goal.returns-then-own
 returns-then-own c =
     elim c.if-b-eq-ABSENT.branch [
-      then-b-eq-ABSENT w ↦ absurd (omega (arith, w.own-is))
+      | then-b-eq-ABSENT w ↦ absurd (omega (arith, w.own-is))
       | else-b-eq-ABSENT w ↦
           exits_never c.requires.0.well_formed.sound (rows_of_read c.args.sheet.now) c.args.n c.args.x c.below-b.ensures
           w.if-b-eq-ABSENT.false c.exit-e.ensures (sym w.own-is ∙ c.if-own.true)
@@ -23,7 +23,7 @@ returns c =
     let rows = rows_of_read c.args.sheet.now in
     let left = c.wide-2.ensures.0 ∙ c.left_at-left.ensures in
     elim c.if-b-eq-ABSENT.branch [
-      then-b-eq-ABSENT w ↦ exits_plain sound rows c.args.n c.args.x c.below-b.ensures w.if-b-eq-ABSENT.true (c.wide.ensures.0 ∙ w.own-is) left
+      | then-b-eq-ABSENT w ↦ exits_plain sound rows c.args.n c.args.x c.below-b.ensures w.if-b-eq-ABSENT.true (c.wide.ensures.0 ∙ w.own-is) left
       | else-b-eq-ABSENT w ↦
           exits_costs sound rows c.args.n c.args.x c.below-b.ensures w.if-b-eq-ABSENT.false c.exit-e.ensures
           (λ z. c.if-own.false (w.own-is ∙ z)) (c.wide.ensures.0 ∙ w.own-is) (omega (arith, c.wide.ensures.1)) left

@@ -25,14 +25,13 @@ returns-then-k-gt-STEPS c =
     λ all. c.follow-k.ensures.far c.if-k-gt-STEPS.true (all c.loop-n.n c.loop-n-test.true)
 
 pub settle-requires : goal.settle-requires
-settle-requires c =
-    (
-      c.requires,
-      c.loop-n.invariant.1,
-      c.loop-n-test.true,
-      c.if-k-gt-STEPS.false,
-      c.follow-k.ensures.near c.if-k-gt-STEPS.false,
-    )
+settle-requires c = (
+  c.requires,
+  c.loop-n.invariant.1,
+  c.loop-n-test.true,
+  c.if-k-gt-STEPS.false,
+  c.follow-k.ensures.near c.if-k-gt-STEPS.false,
+)
 
 pub overflow_add-n : goal.overflow_add-n
 overflow_add-n c = omega arith

@@ -29,12 +29,12 @@ returns c =
     let sound = c.requires.0.well_formed.sound in
     let rows = rows_of_read a.sheet.now in
     elim c.if-w-ne-BLANK.branch [
-      then-w-ne-BLANK v ↦
-    relaxed_move sound rows a.m a.n a.c a.x c.own_exit.ensures c.in-Costs.is c.requires.4
-    c.wide.ensures.0 c.at_most.result v.if-w-ne-BLANK.true (v.least-is ∙ v.cost-cost.ensures)
-    (c.wide-2.ensures.0 ∙ v.price-is) c.at_most.ensures
+      | then-w-ne-BLANK v ↦
+          relaxed_move sound rows a.m a.n a.c a.x c.own_exit.ensures c.in-Costs.is c.requires.4
+          c.wide.ensures.0 c.at_most.result v.if-w-ne-BLANK.true (v.least-is ∙ c.cost-cost.ensures)
+          (c.wide-2.ensures.0 ∙ v.price-is) c.at_most.ensures
       | else-w-ne-BLANK v ↦
-    relaxed_exit sound rows a.m a.n a.c a.x c.own_exit.ensures c.in-Costs.is c.requires.4
-    c.wide.ensures.0 c.at_most.result v.if-w-ne-BLANK.false (v.least-is ∙ c.exit-least.ensures)
-    (c.wide-2.ensures.0 ∙ v.price-is) c.at_most.ensures
+          relaxed_exit sound rows a.m a.n a.c a.x c.own_exit.ensures c.in-Costs.is c.requires.4
+          c.wide.ensures.0 c.at_most.result v.if-w-ne-BLANK.false (v.least-is ∙ c.exit-least.ensures)
+          (c.wide-2.ensures.0 ∙ v.price-is) c.at_most.ensures
     ]

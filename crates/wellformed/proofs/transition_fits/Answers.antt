@@ -16,6 +16,6 @@ returns c =
     let a = c.args in
     let read = tree_of_read a.book.now in
     elim c.if-w.branch [
-      then-w v ↦ transition_blank read a.n a.x c.transition-w.ensures c.requires.3 c.owner_of.ensures v.if-w.true v.v-is
+      | then-w v ↦ transition_blank read a.n a.x c.transition-w.ensures c.requires.3 c.owner_of.ensures v.if-w.true v.v-is
       | else-w v ↦ transition_decides read a.n a.x c.transition-w.ensures c.requires.3 c.owner_of.ensures c.if-m-eq-ABSENT.false v.if-w.false v.v-is
     ]

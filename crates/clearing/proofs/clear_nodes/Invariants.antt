@@ -1,0 +1,15 @@
+-- `clearing::clear_nodes` meets its contract: after each turn the chosen nodes below n are out of use. Assumes nothing.
+use mathlib.Core.Path.{sym, ◌∙◌}
+use Prim.Native.Nat.{◌-◌, ◌≤◌}
+use native.Mathlib.Omega.{arith}
+use Rattle.definitions.specs.Limits.{nodes}
+use Rattle.book.specs.Chosen.{chosen, up_to}
+use Rattle.clearing.specs.Gone.{NodesGone}
+use Rattle.clearing.proofs.Laws.{left_sized, nodes_none, nodes_more, nodes_end}
+use Rattle.clearing.proofs.clear_nodes.Given as goal
+
+abbrev pub invariant-loop-n : goal.invariant-loop-n
+invariant-loop-n l = (l.n ≤ nodes) × NodesGone l.initial.book l.initial.sheet l.book l.sheet (up_to (chosen l.gone) l.n)
+
+abbrev pub decreases-loop-n : goal.decreases-loop-n
+decreases-loop-n l = nodes - l.n

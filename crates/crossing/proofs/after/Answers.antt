@@ -1,0 +1,19 @@
+-- `crossing::after` meets its contract: the sum keeps the node, since a step costs little. Assumes nothing.
+use mathlib.Core.Path.{◌∙◌, ap}
+use Prim.Native.Nat.{ℕ, ◌+◌}
+use native.Mathlib.Omega.{arith}
+use borrow.Author.Rules.{rules}
+use Rattle.crossing.specs.Parts.{way_of}
+use Rattle.crossing.proofs.Inheriting.{after_none, after_some}
+use Rattle.crossing.proofs.after.Goals as goal
+
+pub returns-then-w-eq-NOTHING : goal.returns-then-w-eq-NOTHING
+returns-then-w-eq-NOTHING c = after_none c.args.w c.args.l c.if-w-eq-NOTHING.true
+
+pub overflow_add-result : goal.overflow_add-result
+overflow_add-result c =
+    omega (arith, (after_some c.args.w c.args.l c.if-w-eq-NOTHING.false c.requires (omega arith)).0, c.wide.ensures.0)
+
+pub returns : goal.returns
+returns c =
+    ap (λ (l : ℕ). way_of (c.args.w + l)) c.wide.ensures.0 ∙ (after_some c.args.w c.args.l c.if-w-eq-NOTHING.false c.requires (omega arith)).1

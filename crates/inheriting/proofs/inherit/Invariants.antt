@@ -1,0 +1,19 @@
+-- `inheriting::inherit` meets its contract: the words passed say what the machine inherits, and those that were right still are. Assumes nothing.
+use mathlib.Core.Path.{◌≡◌, sym, ◌∙◌}
+use Prim.Native.Nat.{◌-◌, ◌≤◌, ◌<◌}
+use native.Mathlib.Omega.{arith}
+use lib.ListN.{length-set}
+use Rattle.definitions.specs.Limits.{commands}
+use Rattle.definitions.specs.Book.{tree_of}
+use Rattle.definitions.proofs.Words.{holder_range}
+use Rattle.stepping.proofs.Laws.{owner_told}
+use Rattle.inheriting.specs.Inheriting.{UpRoom, Handed}
+use Rattle.inheriting.proofs.Inheriting.{inherits_held, handed_starts, handed_more, handed_ends}
+use Rattle.inheriting.proofs.Inheriting.{finds_fits}
+use Rattle.inheriting.proofs.inherit.Given as goal
+
+abbrev pub invariant-loop-y : goal.invariant-loop-y
+invariant-loop-y l = (l.y ≤ commands) × UpRoom l.up × Handed (tree_of l.book) l.lands (λ q x. (q ≡ l.m) × (x < l.y)) l.initial.up l.up
+
+abbrev pub decreases-loop-y : goal.decreases-loop-y
+decreases-loop-y l = commands - l.y

@@ -1,0 +1,9 @@
+-- `judging::on_hold` meets its contract: the word is the hold. Assumes nothing.
+use mathlib.Core.Path.{ap}
+use Prim.Native.Nat.{ℕ}
+use lib.Dec.{eqb}
+use borrow.Author.Rules.{rules}
+use Rattle.judging.proofs.on_hold.Goals as goal
+
+pub returns : goal.returns
+returns c = ap (λ (h : ℕ). eqb h 1) c.hold.ensures

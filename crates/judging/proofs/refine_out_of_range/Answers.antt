@@ -1,0 +1,11 @@
+-- `judging::refine_out_of_range` meets its contract: one of three tests. Assumes nothing.
+use mathlib.Core.Bool.{or_assoc}
+use borrow.Author.Rules.{rules}
+use Rattle.judging.proofs.Laws.{first_holds, first_fails}
+use Rattle.judging.proofs.refine_out_of_range.Goals as goal
+
+pub returns-then-bad_node : goal.returns-then-bad_node
+returns-then-bad_node c = rw or_assoc (first_holds _ c.bad_node.ensures c.if-bad_node.true)
+
+pub returns-else-bad_node : goal.returns-else-bad_node
+returns-else-bad_node c = rw or_assoc (first_fails c.bad_node.ensures c.if-bad_node.false c.place_out_of_range.ensures)

@@ -1,0 +1,15 @@
+-- `marking::mark_over` meets its contract: the machines over n are those listed and those over the node in hand, and each turn goes one
+-- level up. Assumes nothing.
+use mathlib.Core.Path.{sym, ◌∙◌}
+use Rattle.definitions.specs.Tree.{UsedNode, level, over}
+use Rattle.definitions.specs.Book.{tree_of}
+use Rattle.stepping.proofs.Laws.{used_range}
+use Rattle.marking.proofs.Climb.{Climbing, climb_starts, machine_range, stops_told, ends_told, goes_on_told, holder_used, higher_told}
+use borrow.Author.Rules.{rules}
+use Rattle.marking.proofs.mark_over.Given as goal
+
+abbrev pub invariant-loop-list : goal.invariant-loop-list
+invariant-loop-list l = UsedNode (tree_of l.book) l.k × Climbing (tree_of l.book) l.initial.sheet l.sheet l.n l.list (λ p. over (tree_of l.book) p l.k)
+
+abbrev pub decreases-loop-list : goal.decreases-loop-list
+decreases-loop-list l = level (tree_of l.book) l.k

@@ -1,0 +1,15 @@
+-- `refreshing::gather` meets its contract: the nodes passed that belong to the machine have their places. Assumes nothing.
+use mathlib.Core.Path.{sym, ◌∙◌}
+use Prim.Native.Nat.{◌≤◌, ◌-◌}
+use native.Mathlib.Omega.{arith}
+use Rattle.definitions.specs.Limits.{nodes}
+use Rattle.definitions.specs.Book.{tree_of}
+use Rattle.refreshing.specs.Parts.{Gathered}
+use Rattle.refreshing.proofs.Gathering.{gathered_none, gathered_all}
+use Rattle.refreshing.proofs.gather.Given as goal
+
+abbrev pub invariant-loop-n : goal.invariant-loop-n
+invariant-loop-n l = (l.n ≤ nodes) × Gathered (tree_of l.book) l.m l.n l.k l.members l.places
+
+abbrev pub decreases-loop-n : goal.decreases-loop-n
+decreases-loop-n l = nodes - l.n

@@ -1,0 +1,13 @@
+-- `refreshing::write_nodes` meets its contract: the rows of the nodes at the places passed are written. Assumes nothing.
+use mathlib.Core.Path.{sym, ◌∙◌}
+use Prim.Native.Nat.{◌≤◌, ◌-◌}
+use native.Mathlib.Omega.{arith}
+use Rattle.refreshing.specs.Parts.{NodesWritten}
+use Rattle.refreshing.proofs.Nodes.{nodes_none, nodes_more, nodes_all}
+use Rattle.refreshing.proofs.write_nodes.Given as goal
+
+abbrev pub invariant-loop-i : goal.invariant-loop-i
+invariant-loop-i l = (l.i ≤ l.k) × NodesWritten l.i l.members l.dist l.before l.by l.initial.sheet l.sheet
+
+abbrev pub decreases-loop-i : goal.decreases-loop-i
+decreases-loop-i l = l.k - l.i

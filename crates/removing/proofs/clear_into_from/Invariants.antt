@@ -1,0 +1,14 @@
+-- `removing::clear_into_from` meets its contract: after each turn the transitions into n are gone below x. Assumes nothing.
+use mathlib.Core.Path.{sym, ◌∙◌}
+use Prim.Native.Nat.{◌-◌, ◌≤◌}
+use native.Mathlib.Omega.{arith}
+use Rattle.definitions.specs.Limits.{commands}
+use Rattle.book.specs.Fields.{Holds}
+use Rattle.removing.proofs.Into.{from_to, from_none, from_more, from_all}
+use Rattle.removing.proofs.clear_into_from.Given as goal
+
+abbrev pub invariant-loop-x : goal.invariant-loop-x
+invariant-loop-x l = (l.x ≤ commands) × Holds l.book (from_to l.initial.book l.n l.k l.x)
+
+abbrev pub decreases-loop-x : goal.decreases-loop-x
+decreases-loop-x l = commands - l.x

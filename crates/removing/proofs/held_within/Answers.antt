@@ -1,0 +1,21 @@
+-- `removing::held_within` meets its contract: the climb goes from the node that holds the machine. Assumes nothing.
+use mathlib.Core.Path.{◌∙◌}
+use Rattle.definitions.specs.Tree.{within}
+use Rattle.definitions.specs.Book.{tree_of}
+use Rattle.stepping.proofs.Inside.{flag_one}
+use Rattle.removing.proofs.Lists.{not_held, held_range, held_told}
+use borrow.Author.Rules.{rules}
+use Rattle.removing.proofs.held_within.Goals as goal
+
+pub returns-then-h-eq-ABSENT : goal.returns-then-h-eq-ABSENT
+returns-then-h-eq-ABSENT c =
+    not_held c.args.book.now c.requires.0 c.args.n c.args.m c.holder-h.ensures c.if-h-eq-ABSENT.true
+
+pub within-requires : goal.within-requires
+within-requires c =
+    (c.requires.0, held_range c.args.book.now c.requires.0 c.args.n c.args.m c.holder-h.ensures c.if-h-eq-ABSENT.false)
+
+pub returns : goal.returns
+returns c =
+    flag_one (within (tree_of c.args.book.now) c.args.n c.holder-h.result) c.within.ensures
+    ∙ held_told c.args.book.now c.requires.0 c.args.n c.args.m c.holder-h.ensures c.if-h-eq-ABSENT.false

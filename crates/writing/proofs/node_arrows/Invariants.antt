@@ -1,0 +1,16 @@
+-- `writing::node_arrows` meets its contract: what is stored so far is what is written of the commands passed. Assumes nothing.
+use Prim.Native.Nat.{◌-◌, ◌^◌}
+use native.Mathlib.Omega.{arith}
+use Rattle.definitions.specs.Limits.{commands}
+use Rattle.definitions.specs.Book.{tree_of}
+use Rattle.definitions.specs.Write.{written_arrow}
+use Rattle.storing.proofs.Laws.{stored_length}
+use Rattle.storing.proofs.Pieces.{Pieces, pieces_none, pieces_room, pieces_more, pieces_all}
+use Rattle.writing.proofs.Laws.{arrow_short}
+use Rattle.writing.proofs.node_arrows.Given as goal
+
+abbrev pub invariant-loop-x : goal.invariant-loop-x
+invariant-loop-x l = Pieces (written_arrow (tree_of l.book) l.n) commands l.initial.out l.at l.out l.p l.x
+
+abbrev pub decreases-loop-x : goal.decreases-loop-x
+decreases-loop-x l = commands - l.x
