@@ -4,12 +4,12 @@ use mathlib.Core.Logic.{⊎_elim}
 use mathlib.Core.Bool.{true, false}
 use mathlib.Core.Option.{Option, none, some}
 use mathlib.Core.List.{List}
-use Prim.Native.Nat.{ℕ, suc, ◌+◌, ◌/◌, ◌%◌, ◌≤◌, ◌<◌}
+use Prim.Native.Nat.{ℕ, ◌+◌, ◌/◌, ◌%◌, ◌≤◌, ◌<◌}
 use native.Mathlib.Omega.{arith}
 use lib.ListN.{length, set}
 use lib.Seq.{get_or-set_same, get_or-set_other}
 use Rattle.definitions.specs.Basics.{◌>>=◌}
-use Rattle.definitions.specs.Limits.{machines, nodes, levels}
+use Rattle.definitions.specs.Limits.{machines, nodes}
 use Rattle.definitions.specs.Tree.{Tree, Transition, UsedNode, is_state, level, Sound}
 use Rattle.definitions.specs.Step.{enter, Climb, found, passed, climb, Arrival, follow, step_in, step}
 use Rattle.definitions.proofs.Options.{none_some, equal_or_not, less_or_not}
@@ -18,7 +18,7 @@ use Rattle.search.specs.Search.{entry_move}
 use Rattle.search.specs.Parts.{at}
 use Rattle.search.specs.Tables.{BlankRow, RowFilled}
 use Rattle.stepping.proofs.Laws.{top_root}
-use Rattle.inheriting.specs.Inheriting.{way_costs, way_of, landed, finds, OwnerRow, MachineRow, RootRow, Handed, HandedTo}
+use Rattle.inheriting.specs.Inheriting.{way_costs, way_of, landed, finds, MachineRow, RootRow, HandedTo}
 use Rattle.inheriting.proofs.Inheriting.{finds_fits, way_entry}
 use Rattle.flattening.specs.Flattening.{EnteredAt, Entered, LevelRows, HeldAt, HandedAt, flat_move}
 

@@ -1,18 +1,17 @@
 -- What a search over the tables of all steps finds: the least costs of lists of commands. Assumes nothing.
-use mathlib.Core.Path.{◌≡◌, refl, sym, ◌∙◌, ap, subst}
+use mathlib.Core.Path.{◌≡◌, refl, sym, ◌∙◌, ap}
 use mathlib.Core.Logic.{◌⊎◌}
 use mathlib.Core.Bool.{true, false}
 use mathlib.Core.Option.{Option, none, some}
-use mathlib.Core.List.{List, [], ◌∷◌}
+use mathlib.Core.List.{List, ◌∷◌}
 use Prim.Native.Nat.{ℕ, ◌<◌}
 use native.Mathlib.Omega.{arith}
 use Rattle.definitions.specs.Basics.{Least}
-use Rattle.definitions.specs.Limits.{nodes, commands}
+use Rattle.definitions.specs.Limits.{nodes}
 use Rattle.definitions.specs.Tree.{Tree, is_state, Sound}
 use Rattle.definitions.specs.Step.{Arrival, run_by, step}
 use Rattle.definitions.specs.Costs.{LeastCost}
-use Rattle.definitions.proofs.Options.{none_some, true_false, decided, less_or_not}
-use Rattle.definitions.proofs.Lists.{no_value}
+use Rattle.definitions.proofs.Options.{none_some}
 use Rattle.definitions.proofs.Runs.{run_first, run_cons, run_nil}
 use Rattle.definitions.proofs.Simple.{state_test, step_state, step_range, step_cost}
 use Rattle.definitions.proofs.Reaching.{Reaches}

@@ -3,18 +3,17 @@
 use mathlib.Core.Path.{◌≡◌, refl, sym, ◌∙◌, ap, ap₂}
 use mathlib.Core.Bool.{Bool, true, false, cond, not, ◌&&◌, and-true}
 use mathlib.Core.Option.{Option, some}
-use mathlib.Core.List.{List, ◌++◌}
+use mathlib.Core.List.{List}
 use Prim.Native.Nat.{ℕ, zero, suc, ◌+◌, ◌*◌, ◌-◌, ◌/◌, ◌%◌, ◌≤◌, ◌<◌}
 use native.Mathlib.Nat.{suc-mul, add_comm}
 use native.Mathlib.Omega.{arith}
-use lib.Arith.{digits_div, digits_mod}
 use lib.Dec.{T, eqb, ltb, eqb→eq}
 use lib.ListN.{length, get_or, length-append, get_or-append}
 use lib.Seq.{get_or-append-add, ext_get_or}
 use borrow.Author.Tests.{ltb-true, ltb-false, lt-ltb, eq-eqb, ne_eqb, eqb-true}
 use Rattle.definitions.specs.Basics.{is_at, is_some, joined}
 use Rattle.definitions.specs.Limits.{machines, absent}
-use Rattle.definitions.specs.Tree.{Tree, Sound}
+use Rattle.definitions.specs.Tree.{Tree}
 use Rattle.definitions.specs.Book.{word, number, under}
 use Rattle.definitions.specs.Edit.{is_start}
 use Rattle.definitions.specs.Open.{given, ladder_machines, ladder_below, ladder_holder, ladder_transition, ladder_of, table, ComesOf}

@@ -3,7 +3,7 @@ use mathlib.Core.Path.{◌≡◌, refl, ap, ◌∙◌}
 use mathlib.Core.Logic.{inl, inr}
 use mathlib.Core.Bool.{Bool, true, false, not, ◌&&◌}
 use mathlib.Core.Option.{none, some}
-use mathlib.Core.List.{List, [], ◌∷◌}
+use mathlib.Core.List.{List, ◌∷◌}
 use Prim.Native.Nat.{ℕ, ◌≤◌, ◌<◌}
 use native.Mathlib.Omega.{arith}
 use lib.Dec.{leb}
@@ -11,7 +11,7 @@ use lib.ListN.{length, get_or, set}
 use lib.Seq.{set-get_or}
 use Rattle.definitions.specs.Basics.{All}
 use Rattle.definitions.specs.Limits.{nodes, commands, book_length, most_walkers}
-use Rattle.definitions.specs.Tree.{Tree, UsedNode, within}
+use Rattle.definitions.specs.Tree.{UsedNode, within}
 use Rattle.definitions.specs.Step.{step}
 use Rattle.definitions.specs.Book.{tree_of, WellFormed}
 use Rattle.definitions.specs.Answer.{Answer, gives, refuses, Refusal, asks, wants, InOrder}

@@ -4,9 +4,8 @@ use mathlib.Core.Path.{◌≡◌, refl, sym, ◌∙◌, ap, subst}
 use mathlib.Core.Logic.{⊎_elim}
 use mathlib.Core.Bool.{Bool, true, false, cond, not, ◌&&◌}
 use mathlib.Core.Option.{Option, none, some}
-use mathlib.Core.List.{List, [], ◌∷◌, ◌++◌, append-nil, append_assoc}
-use Prim.Native.Nat.{ℕ, zero, suc, ◌+◌, ◌*◌, ◌≤◌, ◌<◌}
-use native.Mathlib.Nat.{suc-mul, mul-le-mul_right}
+use mathlib.Core.List.{List, ◌∷◌, ◌++◌}
+use Prim.Native.Nat.{ℕ, suc, ◌+◌, ◌*◌, ◌≤◌, ◌<◌}
 use native.Mathlib.Numerals.{add-one}
 use native.Mathlib.Omega.{arith}
 use lib.Dec.{eqb}
@@ -21,7 +20,6 @@ use Rattle.definitions.specs.Book.{word}
 use Rattle.definitions.specs.Write.{pair, written_begin, written_add, written_refine, written_arrow, written_hold, written_leave, written}
 use Rattle.definitions.proofs.Options.{equal_or_not}
 use Rattle.definitions.proofs.Words.{start_range}
-use Rattle.storing.specs.Stored.{Stored}
 use Rattle.storing.proofs.Pieces.{joined_short}
 use Rattle.writing.specs.Meaning.{Levels, written_level, written_arrows}
 

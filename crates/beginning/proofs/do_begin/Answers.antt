@@ -1,6 +1,5 @@
 -- `beginning::do_begin` meets its contract: all is emptied, and then root, start node, owner and mark are written. Assumes nothing.
 use Rattle.beginning.proofs.Laws.{begin_done}
-use borrow.Author.Rules.{rules}
 use Rattle.beginning.proofs.do_begin.Goals as goal
 
 pub returns : goal.returns

@@ -2,7 +2,6 @@
 use lib.ListN.{replicate}
 use Rattle.definitions.specs.Limits.{machines, nodes}
 use Rattle.beginning.proofs.Laws.{ones, all_empty}
-use borrow.Author.Rules.{rules}
 use Rattle.beginning.proofs.empty.Goals as goal
 
 pub returns : goal.returns

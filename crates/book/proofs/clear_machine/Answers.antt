@@ -1,6 +1,5 @@
 -- `book::clear_machine` meets its contract: its three stores. Assumes nothing.
 use mathlib.Core.Option.{none}
-use borrow.Author.Rules.{rules}
 use Rattle.definitions.specs.Tree.{with_start_of, with_leave}
 use Rattle.definitions.specs.Book.{number}
 use Rattle.book.proofs.Stores.{holds_then}

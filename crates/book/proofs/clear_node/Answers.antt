@@ -4,7 +4,6 @@ use Rattle.definitions.specs.Tree.{with_below, with_node_hold}
 use Rattle.definitions.specs.Book.{number}
 use Rattle.book.specs.Fields.{without_transitions}
 use Rattle.book.proofs.Stores.{holds_then}
-use borrow.Author.Rules.{rules}
 use Rattle.book.proofs.clear_node.Goals as goal
 
 pub returns : goal.returns

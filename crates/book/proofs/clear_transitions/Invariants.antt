@@ -1,11 +1,8 @@
 -- `book::clear_transitions` meets its contract: after each turn the transitions below x are cleared. Assumes nothing.
-use mathlib.Core.Path.{sym, ◌∙◌}
 use Prim.Native.Nat.{◌≤◌, ◌-◌}
-use native.Mathlib.Omega.{arith}
 use Rattle.definitions.specs.Limits.{commands}
-use Rattle.definitions.specs.Book.{transition_of}
 use Rattle.book.specs.Fields.{Holds}
-use Rattle.book.proofs.Stores.{cleared_tree, clearing_none, clearing_more, clearing_all}
+use Rattle.book.proofs.Stores.{cleared_tree}
 use Rattle.book.proofs.clear_transitions.Given as goal
 
 abbrev pub invariant-loop-x : goal.invariant-loop-x

@@ -1,7 +1,6 @@
 -- `book::counting` meets its contract: a transition counts unless it is shut. Assumes nothing.
 use mathlib.Core.Path.{sym, ◌∙◌}
 use Rattle.book.proofs.Counts.{shut_word, open_word}
-use borrow.Author.Rules.{rules}
 use Rattle.book.proofs.counting.Goals as goal
 
 pub returns-then-shut : goal.returns-then-shut

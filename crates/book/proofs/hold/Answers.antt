@@ -2,7 +2,6 @@
 use mathlib.Core.Path.{sym}
 use Rattle.definitions.specs.Book.{hold_word}
 use Rattle.definitions.proofs.Words.{tree_of_hold}
-use borrow.Author.Rules.{rules}
 use Rattle.book.proofs.hold.Goals as goal
 
 pub returns : goal.returns

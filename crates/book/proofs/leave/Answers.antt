@@ -2,7 +2,6 @@
 use mathlib.Core.Path.{sym}
 use Rattle.definitions.specs.Book.{leave_word}
 use Rattle.definitions.proofs.Words.{tree_of_leave}
-use borrow.Author.Rules.{rules}
 use Rattle.book.proofs.leave.Goals as goal
 
 pub returns : goal.returns

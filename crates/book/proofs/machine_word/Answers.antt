@@ -5,7 +5,6 @@ use native.Mathlib.Omega.{arith}
 use lib.ListN.{get_or}
 use Rattle.definitions.specs.Book.{machine_word}
 use Rattle.definitions.proofs.Words.{tree_of_machine}
-use borrow.Author.Rules.{rules}
 use Rattle.book.proofs.machine_word.Goals as goal
 
 pub returns : goal.returns

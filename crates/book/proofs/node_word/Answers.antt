@@ -5,7 +5,6 @@ use native.Mathlib.Omega.{arith}
 use lib.ListN.{get_or}
 use Rattle.definitions.specs.Book.{node_word}
 use Rattle.definitions.proofs.Words.{tree_of_node}
-use borrow.Author.Rules.{rules}
 use Rattle.book.proofs.node_word.Goals as goal
 
 pub returns : goal.returns

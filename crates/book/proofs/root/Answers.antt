@@ -1,6 +1,5 @@
 -- `book::root` meets its contract: the root is the first word. Assumes nothing.
 use mathlib.Core.Path.{refl}
-use borrow.Author.Rules.{rules}
 use Rattle.definitions.specs.Book.{tree_of}
 use Rattle.book.proofs.root.Goals as goal
 

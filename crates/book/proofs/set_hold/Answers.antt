@@ -1,6 +1,5 @@
 -- `book::set_hold` meets its contract: a store among the holds. Assumes nothing.
 use Rattle.book.proofs.Stores.{hold_holds}
-use borrow.Author.Rules.{rules}
 use Rattle.book.proofs.set_hold.Goals as goal
 
 pub returns : goal.returns

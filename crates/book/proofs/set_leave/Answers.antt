@@ -1,6 +1,5 @@
 -- `book::set_leave` meets its contract: a store among the leaving costs. Assumes nothing.
 use Rattle.book.proofs.Stores.{leave_holds}
-use borrow.Author.Rules.{rules}
 use Rattle.book.proofs.set_leave.Goals as goal
 
 pub returns : goal.returns

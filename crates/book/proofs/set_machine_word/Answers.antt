@@ -1,6 +1,5 @@
 -- `book::set_machine_word` meets its contract: a store into a machine's record. Assumes nothing.
 use Rattle.book.proofs.Stores.{machine_holds}
-use borrow.Author.Rules.{rules}
 use Rattle.book.proofs.set_machine_word.Goals as goal
 
 pub returns : goal.returns

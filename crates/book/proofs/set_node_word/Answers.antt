@@ -1,6 +1,5 @@
 -- `book::set_node_word` meets its contract: a store into a node's record. Assumes nothing.
 use Rattle.book.proofs.Stores.{node_holds}
-use borrow.Author.Rules.{rules}
 use Rattle.book.proofs.set_node_word.Goals as goal
 
 pub returns : goal.returns

@@ -1,6 +1,5 @@
 -- `book::set_root` meets its contract: the root is the first word. Assumes nothing.
 use Rattle.book.proofs.Stores.{root_holds}
-use borrow.Author.Rules.{rules}
 use Rattle.book.proofs.set_root.Goals as goal
 
 pub returns : goal.returns

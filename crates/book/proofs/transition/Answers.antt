@@ -3,7 +3,6 @@ use mathlib.Core.Path.{◌≡◌, ◌∙◌, ap}
 use Prim.Native.Nat.{suc, ◌+◌}
 use native.Mathlib.Omega.{arith}
 use Rattle.definitions.specs.Book.{node_field, tree_of}
-use borrow.Author.Rules.{rules}
 use Rattle.book.proofs.transition.Goals as goal
 
 pub returns : goal.returns

@@ -2,7 +2,6 @@
 use mathlib.Core.Path.{sym}
 use native.Mathlib.Omega.{arith}
 use lib.Seq.{length-take-le}
-use borrow.Author.Rules.{rules}
 use Rattle.book_examples.proofs.open_short.Goals as goal
 
 pub slice_bounds-open_fresh-end-2 : goal.slice_bounds-open_fresh-end-2

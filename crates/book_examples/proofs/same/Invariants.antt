@@ -1,6 +1,5 @@
 -- `book_examples::same` is safe and ends. Assumes nothing.
 use Prim.Native.Nat.{◌-◌}
-use borrow.Author.Rules.{rules}
 use Rattle.book_examples.proofs.same.Given as goal
 
 abbrev pub invariant-loop-i : goal.invariant-loop-i

@@ -3,7 +3,6 @@ use mathlib.Core.Path.{subst}
 use Rattle.definitions.specs.Choose.{ChoiceSays}
 use Rattle.choosing.specs.Meaning.{choice_of, number_of, Numbered}
 use Rattle.bycommand.proofs.Laws.{as_it_is_lem}
-use borrow.Author.Rules.{rules}
 use Rattle.bycommand.proofs.choice.Goals as goal
 
 pub returns-then-book-ne-TURNED : goal.returns-then-book-ne-TURNED

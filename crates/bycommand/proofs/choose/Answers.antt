@@ -2,7 +2,6 @@
 use mathlib.Core.Path.{subst}
 use Rattle.definitions.specs.Choose.{ChooseSays}
 use Rattle.bycommand.proofs.Laws.{as_it_is_lem}
-use borrow.Author.Rules.{rules}
 use Rattle.bycommand.proofs.choose.Goals as goal
 
 pub returns-then-book-ne-TURNED : goal.returns-then-book-ne-TURNED

@@ -1,10 +1,9 @@
 -- `bycommand::merge` meets its contract: the three books are turned, merged by node, and the third turned back. Assumes nothing.
 use mathlib.Core.Path.{refl, sym, ◌∙◌}
-use mathlib.Core.Logic.{inl, inr}
+use mathlib.Core.Logic.{inl}
 use Rattle.definitions.specs.Merge.{MergeSays}
 use Rattle.definitions.specs.ByCommand.{by_node}
 use Rattle.bycommand.proofs.Laws.{turned_back, node_same}
-use borrow.Author.Rules.{rules}
 use Rattle.bycommand.proofs.merge.Goals as goal
 
 pub returns-then-first-ne-TURNED : goal.returns-then-first-ne-TURNED

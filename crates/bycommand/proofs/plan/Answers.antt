@@ -3,7 +3,6 @@ use mathlib.Core.Path.{subst}
 use Rattle.definitions.specs.Calls.{PlanSays}
 use Rattle.planning.specs.Meaning.{answer_of}
 use Rattle.bycommand.proofs.Laws.{as_it_is_lem}
-use borrow.Author.Rules.{rules}
 use Rattle.bycommand.proofs.plan.Goals as goal
 
 pub returns-then-book-ne-TURNED : goal.returns-then-book-ne-TURNED

@@ -1,5 +1,4 @@
 -- `choosing::cheaper` meets its contract: on each way out both answers' cases are known, and which cost is less. Assumes nothing.
-use borrow.Author.Rules.{rules}
 use borrow.Author.Tests.{lt-ltb, le-ltb}
 use Rattle.choosing.proofs.cheaper.Goals as goal
 

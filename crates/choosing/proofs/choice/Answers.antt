@@ -1,6 +1,5 @@
 -- `choosing::choice` meets its contract: each way out shows its refusal, or that none holds. Assumes nothing.
 use native.Mathlib.Omega.{arith}
-use borrow.Author.Rules.{rules}
 use Rattle.definitions.specs.Book.{tree_of, WellFormed}
 use Rattle.definitions.specs.Choose.{cheaper}
 use Rattle.choosing.specs.Meaning.{used_in}

@@ -1,7 +1,6 @@
 -- `choosing::choose` meets its contract: the front part that it gives back is the one that `choice` names, and that is within its list.
 -- Assumes nothing.
 use mathlib.Core.Path.{refl, sym}
-use borrow.Author.Rules.{rules}
 use lib.Seq.{length-take-le}
 use Rattle.definitions.specs.Choose.{first, second, ChoiceSays}
 use Rattle.choosing.proofs.Says.{says_same, says_within}

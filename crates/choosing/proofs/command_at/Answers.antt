@@ -1,5 +1,4 @@
 -- `choosing::command_at` meets its contract: a byte fits. Assumes nothing.
-use borrow.Author.Rules.{rules}
 use native.Mathlib.Omega.{arith}
 use Rattle.choosing.proofs.command_at.Goals as goal
 

@@ -1,10 +1,8 @@
 -- `clearing::clear_machines` meets its contract: after each turn the chosen machines below m are out of use. Assumes nothing.
 use mathlib.Core.Path.{sym, ◌∙◌}
-use Prim.Native.Nat.{◌-◌, ◌≤◌}
+use Prim.Native.Nat.{◌-◌}
 use native.Mathlib.Omega.{arith}
-use Rattle.definitions.specs.Limits.{machines}
-use Rattle.book.specs.Chosen.{chosen, up_to}
-use Rattle.clearing.specs.Gone.{MachinesGone}
+use Rattle.book.specs.Chosen.{chosen}
 use Rattle.clearing.proofs.Laws.{left_sized, machines_none, machines_more, machines_end}
 use Rattle.clearing.proofs.clear_machines.Goals as goal
 

@@ -1,10 +1,8 @@
 -- `clearing::clear_nodes` meets its contract: after each turn the chosen nodes below n are out of use. Assumes nothing.
 use mathlib.Core.Path.{sym, ◌∙◌}
-use Prim.Native.Nat.{◌-◌, ◌≤◌}
+use Prim.Native.Nat.{◌-◌}
 use native.Mathlib.Omega.{arith}
-use Rattle.definitions.specs.Limits.{nodes}
-use Rattle.book.specs.Chosen.{chosen, up_to}
-use Rattle.clearing.specs.Gone.{NodesGone}
+use Rattle.book.specs.Chosen.{chosen}
 use Rattle.clearing.proofs.Laws.{left_sized, nodes_none, nodes_more, nodes_end}
 use Rattle.clearing.proofs.clear_nodes.Goals as goal
 

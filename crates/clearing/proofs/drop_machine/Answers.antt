@@ -2,7 +2,6 @@
 use mathlib.Core.Bool.{false}
 use Rattle.sheet.specs.Fields.{with_mark}
 use Rattle.sheet.proofs.Stores.{leaves_then}
-use borrow.Author.Rules.{rules}
 use Rattle.clearing.proofs.drop_machine.Goals as goal
 
 pub returns : goal.returns

@@ -3,7 +3,6 @@ use borrow.Author.Tests.{eq-eqb, ne_eqb}
 use lib.ListN.{get_or}
 use Rattle.book.specs.Chosen.{chosen}
 use Rattle.clearing.proofs.Laws.{machine_stays, machine_goes}
-use borrow.Author.Rules.{rules}
 use Rattle.clearing.proofs.drop_machine_if.Goals as goal
 
 pub returns-then-here-ne1 : goal.returns-then-here-ne1

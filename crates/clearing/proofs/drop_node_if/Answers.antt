@@ -3,7 +3,6 @@ use borrow.Author.Tests.{eq-eqb, ne_eqb}
 use lib.ListN.{get_or}
 use Rattle.book.specs.Chosen.{chosen}
 use Rattle.clearing.proofs.Laws.{node_stays, node_goes}
-use borrow.Author.Rules.{rules}
 use Rattle.clearing.proofs.drop_node_if.Goals as goal
 
 pub returns-then-here-ne1 : goal.returns-then-here-ne1

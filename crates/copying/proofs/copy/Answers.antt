@@ -1,11 +1,9 @@
 -- `copying::copy` meets its contract: what Load says of an empty stream, what Write says, and what Load says of the stream written, taken
 -- together. Assumes nothing.
-use mathlib.Core.Path.{sym, subst}
-use mathlib.Core.List.{[], ◌∷◌}
+use mathlib.Core.Path.{subst}
+use mathlib.Core.List.{◌∷◌}
 use Prim.Native.Nat.{◌≤◌}
-use borrow.Author.Rules.{rules}
 use lib.ListN.{length}
-use lib.Seq.{length-take-le}
 use Rattle.definitions.specs.Answer.{gives}
 use Rattle.definitions.specs.Write.{WriteSays}
 use Rattle.writing.specs.Meaning.{answer_of}

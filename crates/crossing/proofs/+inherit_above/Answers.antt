@@ -1,10 +1,7 @@
 -- `crossing::inherit_above` meets its contract: first the rows above the machine, then its own. It ends at the root: the node that holds a
 -- machine is one level higher. Assumes nothing.
 use mathlib.Core.Path.{◌∙◌}
-use Prim.Native.Nat.{ℕ, ◌<◌}
 use native.Mathlib.Omega.{arith}
-use Rattle.definitions.specs.Tree.{level}
-use Rattle.definitions.specs.Book.{tree_of}
 use Rattle.stepping.proofs.Laws.{used_range, owner_told}
 use Rattle.stepping.proofs.Upward.{held, used_holder, higher}
 use Rattle.crossing.proofs.Inheriting.{handed_root, handed_row, handed_on}

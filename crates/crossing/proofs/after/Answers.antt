@@ -2,7 +2,6 @@
 use mathlib.Core.Path.{◌∙◌, ap}
 use Prim.Native.Nat.{ℕ, ◌+◌}
 use native.Mathlib.Omega.{arith}
-use borrow.Author.Rules.{rules}
 use Rattle.crossing.specs.Parts.{way_of}
 use Rattle.crossing.proofs.Inheriting.{after_none, after_some}
 use Rattle.crossing.proofs.after.Goals as goal

@@ -1,7 +1,6 @@
 -- `crossing::cross` meets its contract: the tables take the moves, and the rest is the search's. Assumes nothing.
 use mathlib.Core.Path.{refl}
 use native.Mathlib.Omega.{arith}
-use borrow.Author.Rules.{rules}
 use Rattle.search.proofs.Tables.{blank_tables}
 use Rattle.crossing.proofs.Searched.{cross_ready, cross_done}
 use Rattle.crossing.proofs.cross.Goals as goal

@@ -1,7 +1,6 @@
 -- `crossing::entry` meets its contract: what is stored is the move by what the command finds, where the node is left. Assumes nothing.
 use mathlib.Core.Path.{refl, ◌∙◌}
 use native.Mathlib.Omega.{arith}
-use borrow.Author.Rules.{rules}
 use Rattle.definitions.specs.Book.{tree_of}
 use Rattle.definitions.specs.Sheet.{rows_of}
 use Rattle.search.proofs.Tables.{place_target, place_price, entry_stored}

@@ -1,6 +1,5 @@
 -- `crossing::in_opened` meets its contract: the word of the node's owner says it. Assumes nothing.
 use native.Mathlib.Omega.{arith}
-use borrow.Author.Rules.{rules}
 use Rattle.crossing.proofs.Opening.{in_none, in_range, in_some}
 use Rattle.crossing.proofs.in_opened.Goals as goal
 

@@ -1,15 +1,9 @@
 -- `crossing::inherit` meets its contract: the words passed say what the machine inherits, and those that were right still are. Assumes nothing.
-use mathlib.Core.Path.{◌≡◌, sym, ◌∙◌}
+use mathlib.Core.Path.{◌≡◌}
 use Prim.Native.Nat.{◌-◌, ◌≤◌, ◌<◌}
-use native.Mathlib.Omega.{arith}
-use lib.ListN.{length-set}
 use Rattle.definitions.specs.Limits.{commands}
 use Rattle.definitions.specs.Book.{tree_of}
-use Rattle.definitions.proofs.Words.{holder_range}
-use Rattle.stepping.proofs.Laws.{owner_told}
 use Rattle.crossing.specs.Parts.{UpRoom, Handed}
-use Rattle.crossing.proofs.Inheriting.{inherits_held, handed_starts, handed_more, handed_ends}
-use Rattle.crossing.proofs.Tabling.{finds_fits}
 use Rattle.crossing.proofs.inherit.Given as goal
 
 abbrev pub invariant-loop-y : goal.invariant-loop-y

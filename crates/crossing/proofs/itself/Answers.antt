@@ -1,10 +1,8 @@
 -- `crossing::itself` meets its contract: the nodes passed have themselves. Assumes nothing.
-use mathlib.Core.Path.{◌≡◌, sym, ◌∙◌}
-use Prim.Native.Nat.{ℕ, ◌-◌, ◌≤◌, ◌<◌}
+use mathlib.Core.Path.{sym, ◌∙◌}
+use Prim.Native.Nat.{◌-◌}
 use native.Mathlib.Omega.{arith}
-use lib.ListN.{length, length-set}
-use Rattle.definitions.specs.Limits.{nodes}
-use Rattle.search.specs.Parts.{at}
+use lib.ListN.{length-set}
 use Rattle.crossing.proofs.Landing.{itself_more}
 use Rattle.crossing.proofs.itself.Goals as goal
 

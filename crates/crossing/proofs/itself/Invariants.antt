@@ -1,11 +1,9 @@
 -- `crossing::itself` meets its contract: the nodes passed have themselves. Assumes nothing.
-use mathlib.Core.Path.{◌≡◌, sym, ◌∙◌}
+use mathlib.Core.Path.{◌≡◌}
 use Prim.Native.Nat.{ℕ, ◌-◌, ◌≤◌, ◌<◌}
-use native.Mathlib.Omega.{arith}
-use lib.ListN.{length, length-set}
+use lib.ListN.{length}
 use Rattle.definitions.specs.Limits.{nodes}
 use Rattle.search.specs.Parts.{at}
-use Rattle.crossing.proofs.Landing.{itself_more}
 use Rattle.crossing.proofs.itself.Given as goal
 
 abbrev pub invariant-loop-v : goal.invariant-loop-v

@@ -1,13 +1,8 @@
 -- `crossing::land` meets its contract: the node in hand lands where the first does, and each turn goes one level down. Assumes nothing.
-use mathlib.Core.Path.{◌≡◌, refl, ◌∙◌}
+use mathlib.Core.Path.{refl, ◌∙◌}
 use Prim.Native.Nat.{◌-◌}
 use native.Mathlib.Omega.{arith}
-use Rattle.definitions.specs.Limits.{levels}
-use Rattle.definitions.specs.Tree.{UsedNode, level}
-use Rattle.definitions.specs.Book.{tree_of}
-use Rattle.plantheory.specs.Search.{land}
 use Rattle.stepping.proofs.Laws.{used_range, below_told}
-use Rattle.crossing.specs.Parts.{is_open}
 use Rattle.crossing.proofs.Landing.{lands_plain, lands_shut, LandsOn, lands_on}
 use Rattle.crossing.proofs.land.Goals.{After-start-w}
 use Rattle.crossing.proofs.land.Goals as goal

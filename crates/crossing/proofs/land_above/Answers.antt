@@ -2,12 +2,11 @@
 -- turn goes one level up. Assumes nothing.
 use mathlib.Core.Path.{sym, ◌∙◌}
 use native.Mathlib.Omega.{arith}
-use Rattle.definitions.specs.Tree.{level}
 use Rattle.definitions.specs.Book.{tree_of}
 use Rattle.stepping.proofs.Laws.{used_range, owner_told}
 use Rattle.stepping.proofs.Upward.{used_holder, higher}
 use Rattle.crossing.specs.Parts.{is_open}
-use Rattle.crossing.proofs.Landing.{LandingWalk, landing_starts, landing_ends, landing_on}
+use Rattle.crossing.proofs.Landing.{landing_starts, landing_ends, landing_on}
 use Rattle.crossing.proofs.land_above.Goals as goal
 
 pub loop-s-init : goal.loop-s-init

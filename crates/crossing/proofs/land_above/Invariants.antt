@@ -1,13 +1,9 @@
 -- `crossing::land_above` meets its contract: of the nodes that hold a machine above the first node, those passed have where they land, and each
 -- turn goes one level up. Assumes nothing.
-use mathlib.Core.Path.{sym, ◌∙◌}
-use native.Mathlib.Omega.{arith}
 use Rattle.definitions.specs.Tree.{level}
 use Rattle.definitions.specs.Book.{tree_of}
-use Rattle.stepping.proofs.Laws.{used_range, owner_told}
-use Rattle.stepping.proofs.Upward.{used_holder, higher}
 use Rattle.crossing.specs.Parts.{is_open}
-use Rattle.crossing.proofs.Landing.{LandingWalk, landing_starts, landing_ends, landing_on}
+use Rattle.crossing.proofs.Landing.{LandingWalk}
 use Rattle.crossing.proofs.land_above.Given as goal
 
 abbrev pub invariant-loop-s : goal.invariant-loop-s

@@ -1,7 +1,6 @@
 -- `crossing::landings` meets its contract: a node that holds none of the opened machines lands where it is, and the two walks pass the others.
 -- Assumes nothing.
 use mathlib.Core.Path.{◌∙◌}
-use borrow.Author.Rules.{rules}
 use Rattle.crossing.proofs.Landing.{landings_both}
 use Rattle.crossing.proofs.landings.Goals as goal
 

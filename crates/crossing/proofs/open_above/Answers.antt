@@ -3,10 +3,9 @@
 use mathlib.Core.Path.{sym, ◌∙◌}
 use native.Mathlib.Omega.{arith}
 use lib.ListN.{length-set}
-use Rattle.definitions.specs.Tree.{level}
 use Rattle.definitions.specs.Book.{tree_of}
 use Rattle.stepping.proofs.Upward.{higher}
-use Rattle.crossing.proofs.Opening.{Walking, walk_starts, hand_range, machine_range, machine_room, walk_ends, walk_on}
+use Rattle.crossing.proofs.Opening.{walk_starts, hand_range, machine_range, machine_room, walk_ends, walk_on}
 use Rattle.crossing.proofs.open_above.Goals as goal
 
 pub loop-s-init : goal.loop-s-init

@@ -1,6 +1,5 @@
 -- `crossing::priced` meets its contract: the word for nothing has the word for absent as its node. Assumes nothing.
 use native.Mathlib.Omega.{arith}
-use borrow.Author.Rules.{rules}
 use Rattle.sheet.proofs.Exits.{exits_none, exits_some}
 use Rattle.crossing.specs.Parts.{way_of}
 use Rattle.crossing.proofs.Tabling.{priced_costs, priced_never}

@@ -1,12 +1,9 @@
 -- `crossing::row` meets its contract: the entries passed have their moves, and the other rows are as they were. Assumes nothing.
-use mathlib.Core.Path.{sym, ◌∙◌}
 use Prim.Native.Nat.{◌≤◌, ◌-◌}
-use native.Mathlib.Omega.{arith}
 use Rattle.definitions.specs.Limits.{commands}
 use Rattle.definitions.specs.Book.{tree_of}
 use Rattle.definitions.specs.Sheet.{rows_of}
-use Rattle.search.proofs.Tables.{RowTo, row_starts, row_more, row_ends}
-use Rattle.stepping.proofs.Laws.{used_range, owner_told}
+use Rattle.search.proofs.Tables.{RowTo}
 use Rattle.crossing.specs.Parts.{land_move}
 use Rattle.crossing.proofs.row.Given as goal
 

@@ -1,6 +1,5 @@
 -- `crossing::row_if_opened` meets its contract: a node outside the opened machines has no moves, another has the search's. Assumes nothing.
 use mathlib.Core.Path.{sym, ◌∙◌}
-use borrow.Author.Rules.{rules}
 use borrow.Author.Tests.{not-true, not-false}
 use Rattle.definitions.specs.Book.{tree_of}
 use Rattle.definitions.specs.Sheet.{rows_of}

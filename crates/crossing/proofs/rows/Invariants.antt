@@ -1,11 +1,9 @@
 -- `crossing::rows` meets its contract: the rows passed have their moves, and the others none. Assumes nothing.
-use mathlib.Core.Path.{sym, ◌∙◌}
 use Prim.Native.Nat.{◌≤◌, ◌-◌}
-use native.Mathlib.Omega.{arith}
 use Rattle.definitions.specs.Limits.{nodes}
 use Rattle.definitions.specs.Book.{tree_of}
 use Rattle.definitions.specs.Sheet.{rows_of}
-use Rattle.search.proofs.Tables.{TabledTo, tables_start, tables_more, tables_end}
+use Rattle.search.proofs.Tables.{TabledTo}
 use Rattle.crossing.specs.Parts.{is_open, open_move}
 use Rattle.crossing.proofs.rows.Given as goal
 

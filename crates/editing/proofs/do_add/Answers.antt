@@ -1,6 +1,5 @@
 -- `editing::do_add` meets its contract: the machines over the start node are marked, and the new node gets its owner. Assumes nothing.
 use Rattle.editing.proofs.Done.{add_done, add_taken, start_used}
-use borrow.Author.Rules.{rules}
 use Rattle.editing.proofs.do_add.Goals as goal
 
 pub start-requires : goal.start-requires

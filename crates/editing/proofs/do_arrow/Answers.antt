@@ -1,7 +1,6 @@
 -- `editing::do_arrow` meets its contract: the machines over the node are marked, and one transition is written. Assumes nothing.
 use native.Mathlib.Omega.{arith}
 use Rattle.editing.proofs.Done.{arrow_done, arrow_taken, arrow_used}
-use borrow.Author.Rules.{rules}
 use Rattle.editing.proofs.do_arrow.Goals as goal
 
 pub touch-requires : goal.touch-requires

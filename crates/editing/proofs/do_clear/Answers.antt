@@ -1,6 +1,5 @@
 -- `editing::do_clear` meets its contract: the machines over the node are marked, and one transition is cleared. Assumes nothing.
 use Rattle.editing.proofs.Done.{clear_done, clear_taken}
-use borrow.Author.Rules.{rules}
 use Rattle.editing.proofs.do_clear.Goals as goal
 
 pub touch-requires : goal.touch-requires

@@ -1,7 +1,6 @@
 -- `editing::do_crown` meets its contract: the new machine is marked, and five words of the book are written. Assumes nothing.
 use native.Mathlib.Omega.{arith}
 use Rattle.editing.proofs.Done.{crown_done, crown_taken, root_range}
-use borrow.Author.Rules.{rules}
 use Rattle.editing.proofs.do_crown.Goals as goal
 
 pub set_stale-requires : goal.set_stale-requires

@@ -1,6 +1,5 @@
 -- `editing::do_hold` meets its contract: the machines over the node are marked, and its hold is written. Assumes nothing.
 use Rattle.editing.proofs.Done.{hold_done, hold_taken}
-use borrow.Author.Rules.{rules}
 use Rattle.editing.proofs.do_hold.Goals as goal
 
 pub touch-requires : goal.touch-requires

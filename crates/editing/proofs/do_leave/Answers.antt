@@ -1,6 +1,5 @@
 -- `editing::do_leave` meets its contract: the machines over the start node are marked, and the charge is written. Assumes nothing.
 use Rattle.editing.proofs.Done.{leave_done, leave_taken, start_used}
-use borrow.Author.Rules.{rules}
 use Rattle.editing.proofs.do_leave.Goals as goal
 
 pub start-requires : goal.start-requires

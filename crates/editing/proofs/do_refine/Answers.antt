@@ -2,7 +2,6 @@
 -- Assumes nothing.
 use native.Mathlib.Omega.{arith}
 use Rattle.editing.proofs.Done.{refine_done, refine_taken}
-use borrow.Author.Rules.{rules}
 use Rattle.editing.proofs.do_refine.Goals as goal
 
 pub touch-requires : goal.touch-requires

@@ -1,6 +1,5 @@
 -- `editing::do_start` meets its contract: the machines over the node are marked, and its machine gets it for its start. Assumes nothing.
 use Rattle.editing.proofs.Done.{start_done, start_owner, start_taken}
-use borrow.Author.Rules.{rules}
 use Rattle.editing.proofs.do_start.Goals as goal
 
 pub touch-requires : goal.touch-requires

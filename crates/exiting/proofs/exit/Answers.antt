@@ -1,6 +1,5 @@
 -- `exiting::exit` meets its contract: each way out shows its refusal, or that none holds. Assumes nothing.
 use native.Mathlib.Omega.{arith}
-use borrow.Author.Rules.{rules}
 use Rattle.definitions.specs.Book.{tree_of, WellFormed}
 use Rattle.definitions.specs.Truth.{TrueSheet}
 use Rattle.book.proofs.Decide.{passed, refused}

@@ -1,11 +1,11 @@
 -- `expanding::expand_node` and `expanding::expand_path` meet their contracts. Assumes nothing.
-use Rattle.std.proofs.Common.{◌≡◌, ◌+◌, ◌-◌, ◌<◌, ◌++◌, ℕ, List, subst, arith}
+use Rattle.std.proofs.Common.{◌+◌, ◌-◌, ◌<◌, ℕ, List, subst, arith}
 use Rattle.definitions.specs.Book.{tree_of}
 use Rattle.definitions.specs.Sheet.{rows_of}
 use Rattle.plantheory.specs.Expand.{node_part}
-use Rattle.expanding.specs.Expanding.{leave_part, steps_part, CommandsWritten}
+use Rattle.expanding.specs.Expanding.{leave_part, CommandsWritten}
 use Rattle.expanding.proofs.Tracing.{steps_down, steps_over}
-use Rattle.expanding.proofs.Opening.{part_flat, opens_on}
+use Rattle.expanding.proofs.Opening.{part_flat}
 use Rattle.expanding.proofs.Writing.{Onward, onward_more, onward_done, leave_shut, onward_room}
 use Rattle.expanding.proofs.+expand_node_expand_path.Goals as goal
 

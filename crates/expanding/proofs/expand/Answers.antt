@@ -1,7 +1,6 @@
 -- `expanding::expand` meets its contract: the steps traced from b are the plan's, and their commands stand at the front. Assumes nothing.
 use mathlib.Core.Path.{refl, ap, subst}
 use native.Mathlib.Omega.{arith}
-use borrow.Author.Rules.{rules}
 use lib.ListN.{length}
 use Rattle.expanding.specs.Expanding.{CommandsWritten}
 use Rattle.expanding.proofs.Tracing.{steps_none}

@@ -5,7 +5,6 @@ use Rattle.definitions.specs.Limits.{nodes}
 use Rattle.definitions.specs.Book.{word, number}
 use Rattle.definitions.proofs.Words.{under_in, word_number}
 use Rattle.search.specs.Search.{name_of}
-use borrow.Author.Rules.{rules}
 use Rattle.expanding.proofs.name.Goals as goal
 
 pub returns : goal.returns

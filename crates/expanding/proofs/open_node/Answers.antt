@@ -1,7 +1,6 @@
 -- `expanding::open_node` meets its contract: a node opens into the steps that its machine's last node is traced to, and the one that leaves
 -- it. Assumes nothing.
 use native.Mathlib.Omega.{arith}
-use borrow.Author.Rules.{rules}
 use Rattle.definitions.specs.Book.{tree_of}
 use Rattle.definitions.proofs.Words.{present_word, no_below}
 use Rattle.plantheory.proofs.Expanded.{part_plain}

@@ -2,9 +2,7 @@
 use mathlib.Core.Path.{sym, ◌∙◌}
 use Prim.Native.Nat.{◌-◌}
 use native.Mathlib.Omega.{arith}
-use Rattle.definitions.specs.Limits.{nodes}
-use Rattle.search.specs.Search.{name_of}
-use Rattle.expanding.proofs.Tracing.{Tracing, tracing_none, tracing_room, tracing_next, tracing_over, tracing_noted, tracing_done}
+use Rattle.expanding.proofs.Tracing.{tracing_none, tracing_room, tracing_next, tracing_over, tracing_noted, tracing_done}
 use Rattle.expanding.proofs.trace.Goals as goal
 
 pub loop-n-init : goal.loop-n-init

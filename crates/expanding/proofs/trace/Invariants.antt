@@ -1,10 +1,8 @@
 -- `expanding::trace` meets its contract: the steps are noted one by one, and there is room for each. Assumes nothing.
-use mathlib.Core.Path.{sym, ◌∙◌}
 use Prim.Native.Nat.{◌-◌}
-use native.Mathlib.Omega.{arith}
 use Rattle.definitions.specs.Limits.{nodes}
 use Rattle.search.specs.Search.{name_of}
-use Rattle.expanding.proofs.Tracing.{Tracing, tracing_none, tracing_room, tracing_next, tracing_over, tracing_noted, tracing_done}
+use Rattle.expanding.proofs.Tracing.{Tracing}
 use Rattle.expanding.proofs.trace.Given as goal
 
 abbrev pub invariant-loop-n : goal.invariant-loop-n

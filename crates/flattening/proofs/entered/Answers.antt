@@ -1,8 +1,8 @@
 -- `flattening::entered` meets its contract: the nodes passed have the state where they are entered. Assumes nothing.
-use mathlib.Core.Path.{◌≡◌, sym, ◌∙◌}
-use Prim.Native.Nat.{ℕ, ◌-◌, ◌≤◌, ◌<◌}
+use mathlib.Core.Path.{sym, ◌∙◌}
+use Prim.Native.Nat.{ℕ, ◌-◌, ◌<◌}
 use native.Mathlib.Omega.{arith}
-use lib.ListN.{length, length-set}
+use lib.ListN.{length-set}
 use Rattle.definitions.specs.Limits.{nodes}
 use Rattle.definitions.specs.Book.{tree_of}
 use Rattle.search.specs.Parts.{at}

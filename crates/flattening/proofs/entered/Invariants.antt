@@ -1,13 +1,11 @@
 -- `flattening::entered` meets its contract: the nodes passed have the state where they are entered. Assumes nothing.
-use mathlib.Core.Path.{◌≡◌, sym, ◌∙◌}
+use mathlib.Core.Path.{◌≡◌}
 use Prim.Native.Nat.{ℕ, ◌-◌, ◌≤◌, ◌<◌}
-use native.Mathlib.Omega.{arith}
-use lib.ListN.{length, length-set}
+use lib.ListN.{length}
 use Rattle.definitions.specs.Limits.{nodes}
 use Rattle.definitions.specs.Book.{tree_of}
 use Rattle.search.specs.Parts.{at}
 use Rattle.flattening.specs.Flattening.{EnteredAt}
-use Rattle.flattening.proofs.Laws.{entered_more}
 use Rattle.flattening.proofs.entered.Given as goal
 
 abbrev pub invariant-loop-n : goal.invariant-loop-n

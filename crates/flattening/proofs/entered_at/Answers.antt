@@ -1,5 +1,4 @@
 -- `flattening::entered_at` meets its contract. Assumes nothing.
-use borrow.Author.Rules.{rules}
 use Rattle.definitions.specs.Book.{tree_of}
 use Rattle.definitions.proofs.Words.{no_owner, present_word}
 use Rattle.flattening.proofs.Laws.{entered_off, entered_on}

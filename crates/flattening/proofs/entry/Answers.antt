@@ -1,7 +1,6 @@
 -- `flattening::entry` meets its contract: what is stored is the step by what the command finds. Assumes nothing.
-use mathlib.Core.Path.{refl, ◌∙◌}
+use mathlib.Core.Path.{refl}
 use native.Mathlib.Omega.{arith}
-use borrow.Author.Rules.{rules}
 use Rattle.search.proofs.Tables.{place_target, place_price, entry_stored}
 use Rattle.flattening.proofs.Laws.{entry_step}
 use Rattle.flattening.proofs.entry.Goals as goal

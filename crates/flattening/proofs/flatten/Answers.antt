@@ -1,6 +1,5 @@
 -- `flattening::flatten` meets its contract: where the nodes are entered, what the machines inherit, and the rows from both. Assumes nothing.
 use mathlib.Core.Path.{refl}
-use borrow.Author.Rules.{rules}
 use Rattle.inheriting.proofs.Inheriting.{root_zeros}
 use Rattle.flattening.proofs.flatten.Goals as goal
 

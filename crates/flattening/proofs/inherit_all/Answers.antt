@@ -1,11 +1,7 @@
 -- `flattening::inherit_all` meets its contract: the machines of the levels passed have their rows. Assumes nothing.
 use mathlib.Core.Path.{sym, ◌∙◌}
-use Prim.Native.Nat.{◌-◌, ◌≤◌}
+use Prim.Native.Nat.{◌-◌}
 use native.Mathlib.Omega.{arith}
-use Rattle.definitions.specs.Limits.{levels}
-use Rattle.definitions.specs.Book.{tree_of}
-use Rattle.inheriting.specs.Inheriting.{UpRoom}
-use Rattle.flattening.specs.Flattening.{LevelRows}
 use Rattle.flattening.proofs.Laws.{root_level}
 use Rattle.flattening.proofs.inherit_all.Goals as goal
 

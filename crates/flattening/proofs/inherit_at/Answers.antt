@@ -1,7 +1,6 @@
 -- `flattening::inherit_at` meets its contract: a machine that is held at the level has its row. Assumes nothing.
-use mathlib.Core.Path.{◌∙◌, sym, ap}
+use mathlib.Core.Path.{◌∙◌, ap}
 use native.Mathlib.Omega.{arith}
-use borrow.Author.Rules.{rules}
 use Rattle.definitions.specs.Tree.{level}
 use Rattle.definitions.specs.Book.{tree_of}
 use Rattle.definitions.proofs.Options.{none_some, some_same}

@@ -1,11 +1,7 @@
 -- `flattening::inherit_level` meets its contract: the machines passed that are held at the level have their rows. Assumes nothing.
 use mathlib.Core.Path.{sym, ◌∙◌}
-use Prim.Native.Nat.{◌-◌, ◌≤◌, ◌<◌}
+use Prim.Native.Nat.{◌-◌}
 use native.Mathlib.Omega.{arith}
-use Rattle.definitions.specs.Limits.{machines}
-use Rattle.definitions.specs.Book.{tree_of}
-use Rattle.inheriting.specs.Inheriting.{UpRoom}
-use Rattle.flattening.specs.Flattening.{HandedAt}
 use Rattle.flattening.proofs.Laws.{handed_start, handed_next, level_kept, level_next}
 use Rattle.flattening.proofs.inherit_level.Goals as goal
 

@@ -1,12 +1,9 @@
 -- `flattening::row` meets its contract: the entries passed have their steps, and the other rows are as they were. Assumes nothing.
-use mathlib.Core.Path.{sym, ◌∙◌}
 use Prim.Native.Nat.{◌≤◌, ◌-◌}
-use native.Mathlib.Omega.{arith}
 use Rattle.definitions.specs.Limits.{commands}
 use Rattle.definitions.specs.Book.{tree_of}
 use Rattle.definitions.specs.Step.{step}
-use Rattle.search.proofs.Tables.{RowTo, row_starts, row_more, row_ends}
-use Rattle.stepping.proofs.Laws.{used_range, owner_told}
+use Rattle.search.proofs.Tables.{RowTo}
 use Rattle.flattening.proofs.row.Given as goal
 
 abbrev pub invariant-loop-x : goal.invariant-loop-x

@@ -1,6 +1,5 @@
 -- `flattening::row_if_state` meets its contract: a node that is no state has no moves, a state has its steps. Assumes nothing.
 use mathlib.Core.Path.{sym, ◌∙◌}
-use borrow.Author.Rules.{rules}
 use borrow.Author.Tests.{not-true, not-false}
 use Rattle.definitions.specs.Book.{tree_of}
 use Rattle.definitions.proofs.Path.{level_bound}

@@ -1,10 +1,8 @@
 -- `flattening::rows` meets its contract: the rows passed have their moves, and the others none. Assumes nothing.
-use mathlib.Core.Path.{sym, ◌∙◌}
 use Prim.Native.Nat.{◌≤◌, ◌-◌}
-use native.Mathlib.Omega.{arith}
 use Rattle.definitions.specs.Limits.{nodes}
 use Rattle.definitions.specs.Book.{tree_of}
-use Rattle.search.proofs.Tables.{TabledTo, tables_start, tables_more, tables_end}
+use Rattle.search.proofs.Tables.{TabledTo}
 use Rattle.flattening.specs.Flattening.{flat_move}
 use Rattle.flattening.proofs.rows.Given as goal
 

@@ -1,7 +1,6 @@
 -- `flattening::spread` meets its contract: the tables take the steps, and the rest is the search's. Assumes nothing.
 use mathlib.Core.Path.{refl}
 use native.Mathlib.Omega.{arith}
-use borrow.Author.Rules.{rules}
 use Rattle.definitions.specs.Book.{tree_of}
 use Rattle.definitions.proofs.Simple.{state_test}
 use Rattle.search.proofs.Tables.{blank_tables}

@@ -1,6 +1,5 @@
 -- `himm::himm_choose` meets its contract: what `choosing::choice` says, stored. Assumes nothing.
 use Rattle.himm.proofs.Laws.{choice_fits}
-use borrow.Author.Rules.{rules}
 use Rattle.himm.proofs.himm_choose.Goals as goal
 
 pub chosen-requires : goal.chosen-requires

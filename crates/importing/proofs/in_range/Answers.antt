@@ -1,5 +1,5 @@
 -- `importing::in_range` meets its contract: each number by its own test. Assumes nothing.
-use Rattle.std.proofs.Common.{ltb, rules, ltb-true, lt-ltb}
+use Rattle.std.proofs.Common.{ltb, ltb-true, lt-ltb}
 use Rattle.book.proofs.Decide.{decides_by}
 use Rattle.importing.proofs.in_range.Goals as goal
 

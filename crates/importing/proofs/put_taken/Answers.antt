@@ -1,5 +1,5 @@
 -- `importing::put_taken` meets its contract: the cost is what `round_up` gives, which is not above the largest. Assumes nothing.
-use Rattle.std.proofs.Common.{arith, rules}
+use Rattle.std.proofs.Common.{arith}
 use Rattle.importing.proofs.put_taken.Goals as goal
 
 pub put_arrow-requires : goal.put_arrow-requires

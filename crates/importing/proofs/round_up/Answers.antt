@@ -1,5 +1,5 @@
 -- `importing::round_up` meets its contract: without its fraction x is the least whole number not below it, or one less. Assumes nothing.
-use Rattle.std.proofs.Common.{◌∙◌, rules}
+use Rattle.std.proofs.Common.{◌∙◌}
 use Rattle.importing.proofs.Rounding.{low_enough, high_enough, cut, cut_small, round_next, round_here}
 use Rattle.importing.proofs.round_up.Goals as goal
 

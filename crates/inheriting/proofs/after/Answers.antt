@@ -2,7 +2,6 @@
 use mathlib.Core.Path.{◌∙◌, ap}
 use Prim.Native.Nat.{ℕ, ◌+◌}
 use native.Mathlib.Omega.{arith}
-use borrow.Author.Rules.{rules}
 use Rattle.inheriting.specs.Inheriting.{way_of}
 use Rattle.inheriting.proofs.Inheriting.{after_none, after_some}
 use Rattle.inheriting.proofs.after.Goals as goal

@@ -1,7 +1,6 @@
 -- `inheriting::find` meets its contract: the node's own transition, its target landed, or what the machine inherits. Assumes nothing.
 use Prim.Native.Nat.{◌+◌, ◌*◌, ◌/◌, ◌%◌}
 use native.Mathlib.Omega.{arith}
-use borrow.Author.Rules.{rules}
 use Rattle.definitions.specs.Limits.{commands}
 use Rattle.definitions.specs.Book.{tree_of}
 use Rattle.definitions.proofs.Words.{owner_range}

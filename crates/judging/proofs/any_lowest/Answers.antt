@@ -1,11 +1,9 @@
 -- `judging::any_lowest` meets its contract. The loop's invariant: no machine below `m` stands at the lowest level. Assumes nothing.
 use mathlib.Core.Path.{◌≡◌, sym, ◌∙◌}
 use mathlib.Core.Bool.{false}
-use Prim.Native.Nat.{ℕ, ◌-◌, ◌≤◌, ◌<◌}
+use Prim.Native.Nat.{ℕ, ◌-◌}
 use native.Mathlib.Omega.{arith}
 use borrow.Author.Count.{below_none, below_more}
-use borrow.Author.Rules.{rules}
-use Rattle.definitions.specs.Limits.{machines}
 use Rattle.definitions.specs.Basics.{option}
 use Rattle.definitions.specs.Book.{tree_of}
 use Rattle.definitions.specs.Edit.{lowest}

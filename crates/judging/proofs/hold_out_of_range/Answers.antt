@@ -1,6 +1,5 @@
 -- `judging::hold_out_of_range` meets its contract: one of two tests. Assumes nothing.
 use mathlib.Core.Path.{refl}
-use borrow.Author.Rules.{rules}
 use Rattle.judging.proofs.Laws.{first_holds, first_fails}
 use Rattle.judging.proofs.hold_out_of_range.Goals as goal
 

@@ -1,5 +1,4 @@
 -- `judging::holds_start` meets its contract: both of two tests. Assumes nothing.
-use borrow.Author.Rules.{rules}
 use borrow.Author.Tests.{ne_eqb}
 use Rattle.judging.proofs.holds_start.Goals as goal
 

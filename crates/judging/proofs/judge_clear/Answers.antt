@@ -2,7 +2,6 @@
 -- Assumes nothing.
 use mathlib.Core.Path.{ap}
 use mathlib.Core.Bool.{not}
-use borrow.Author.Rules.{rules}
 use Rattle.definitions.specs.Edit.{refusals, refusal}
 use Rattle.judging.proofs.Laws.{test_true, test_false, no_test, clear_range}
 use Rattle.std.proofs.lemmas.Bool.{not_from_false, not_from_true}

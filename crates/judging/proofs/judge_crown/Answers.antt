@@ -1,6 +1,5 @@
 -- `judging::judge_crown` meets its contract: the first test that holds is met, and where none holds the command is taken.
 -- Assumes nothing.
-use borrow.Author.Rules.{rules}
 use Rattle.definitions.specs.Edit.{refusals, refusal}
 use Rattle.judging.proofs.Laws.{test_true, test_false, no_test, place_range}
 use Rattle.judging.proofs.judge_crown.Goals as goal

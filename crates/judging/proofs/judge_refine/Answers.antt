@@ -2,7 +2,6 @@
 -- Assumes nothing.
 use mathlib.Core.Path.{ap}
 use mathlib.Core.Bool.{not}
-use borrow.Author.Rules.{rules}
 use Rattle.definitions.specs.Book.{tree_of}
 use Rattle.definitions.specs.Edit.{refusals, refusal}
 use Rattle.judging.proofs.Laws.{test_true, test_false, no_test, refine_range, is_used}

@@ -2,7 +2,6 @@
 use mathlib.Core.Path.{ap}
 use Prim.Native.Nat.{ℕ}
 use lib.Dec.{eqb}
-use borrow.Author.Rules.{rules}
 use Rattle.judging.proofs.Laws.{first_holds, first_fails}
 use Rattle.judging.proofs.leave_out_of_range.Goals as goal
 

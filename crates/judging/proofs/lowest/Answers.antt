@@ -1,5 +1,4 @@
 -- `judging::lowest` meets its contract: the level tells. Assumes nothing.
-use borrow.Author.Rules.{rules}
 use Rattle.judging.proofs.Laws.{lowest_told}
 use Rattle.judging.proofs.lowest.Goals as goal
 

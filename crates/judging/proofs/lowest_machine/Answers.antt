@@ -1,5 +1,4 @@
 -- `judging::lowest_machine` meets its contract: the start node tells. Assumes nothing.
-use borrow.Author.Rules.{rules}
 use Rattle.judging.proofs.Laws.{no_machine_told, start_used, start_lowest}
 use Rattle.judging.proofs.lowest_machine.Goals as goal
 

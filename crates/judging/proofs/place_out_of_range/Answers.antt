@@ -1,5 +1,4 @@
 -- `judging::place_out_of_range` meets its contract: one of two tests. Assumes nothing.
-use borrow.Author.Rules.{rules}
 use Rattle.judging.proofs.Laws.{first_holds, first_fails}
 use Rattle.judging.proofs.place_out_of_range.Goals as goal
 

@@ -1,6 +1,5 @@
 -- `judging::refine_out_of_range` meets its contract: one of three tests. Assumes nothing.
 use mathlib.Core.Bool.{or_assoc}
-use borrow.Author.Rules.{rules}
 use Rattle.judging.proofs.Laws.{first_holds, first_fails}
 use Rattle.judging.proofs.refine_out_of_range.Goals as goal
 

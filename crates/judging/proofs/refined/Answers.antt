@@ -1,5 +1,4 @@
 -- `judging::refined` meets its contract: a word says whether a number is there. Assumes nothing.
-use borrow.Author.Rules.{rules}
 use Rattle.judging.proofs.Laws.{refined_told}
 use Rattle.judging.proofs.refined.Goals as goal
 

@@ -1,6 +1,5 @@
 -- `judging::refusal` meets its contract: each command by its own function, and refresh is always taken. Assumes nothing.
 use mathlib.Core.Path.{sym}
-use borrow.Author.Rules.{rules}
 use Rattle.definitions.proofs.Commands.{taken_refresh}
 use Rattle.judging.proofs.refusal.Goals as goal
 

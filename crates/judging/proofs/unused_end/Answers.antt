@@ -1,7 +1,6 @@
 -- `judging::unused_end` meets its contract: one of two tests. Assumes nothing.
 use mathlib.Core.Path.{ap}
 use mathlib.Core.Bool.{not}
-use borrow.Author.Rules.{rules}
 use Rattle.judging.proofs.Laws.{first_holds, first_fails}
 use Rattle.std.proofs.lemmas.Bool.{not_from_false, not_from_true}
 use Rattle.judging.proofs.unused_end.Goals as goal

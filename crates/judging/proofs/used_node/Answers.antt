@@ -1,5 +1,4 @@
 -- `judging::used_node` meets its contract: a word says whether a number is there. Assumes nothing.
-use borrow.Author.Rules.{rules}
 use Rattle.judging.proofs.Laws.{node_told}
 use Rattle.judging.proofs.used_node.Goals as goal
 

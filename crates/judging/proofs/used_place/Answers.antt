@@ -1,5 +1,4 @@
 -- `judging::used_place` meets its contract: one of two tests. Assumes nothing.
-use borrow.Author.Rules.{rules}
 use Rattle.judging.proofs.Laws.{first_holds, first_fails}
 use Rattle.judging.proofs.used_place.Goals as goal
 

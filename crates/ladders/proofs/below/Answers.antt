@@ -1,6 +1,5 @@
 -- `ladders::below` meets its contract: by the node's place in its machine, and whether there is such a machine. Assumes nothing.
 use native.Mathlib.Omega.{arith}
-use borrow.Author.Rules.{rules}
 use Rattle.ladders.proofs.Laws.{below_start, below_under, below_over}
 use Rattle.ladders.proofs.below.Goals as goal
 

@@ -2,7 +2,6 @@
 use mathlib.Core.Path.{refl}
 use mathlib.Core.Logic.{inl, inr}
 use native.Mathlib.Omega.{arith}
-use borrow.Author.Rules.{rules}
 use Rattle.opening.proofs.Ladder.{rows_length}
 use Rattle.ladders.proofs.Laws.{doubled_small, rows_count, rows_given}
 use Rattle.ladders.proofs.ladder.Goals as goal

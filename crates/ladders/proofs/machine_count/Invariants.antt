@@ -1,8 +1,6 @@
 -- `ladders::machine_count` meets its contract. The loop's invariant: after d turns there are 2 to the d machines, less 1. Assumes nothing.
-use mathlib.Core.Path.{◌≡◌, refl}
+use mathlib.Core.Path.{◌≡◌}
 use Prim.Native.Nat.{◌+◌, ◌-◌, ◌^◌, ◌≤◌}
-use native.Mathlib.Omega.{arith}
-use Rattle.ladders.proofs.Laws.{doubled, doubled_small}
 use Rattle.ladders.proofs.machine_count.Given as goal
 
 abbrev pub invariant-loop-d : goal.invariant-loop-d

@@ -2,7 +2,6 @@
 use mathlib.Core.Path.{refl}
 use mathlib.Core.Logic.{inl, inr}
 use native.Mathlib.Omega.{arith}
-use borrow.Author.Rules.{rules}
 use Rattle.book.proofs.Decide.{passed, refused}
 use Rattle.ladders.proofs.Laws.{rows_done}
 use Rattle.std.proofs.lemmas.Bool.{not_from_false, not_from_true}

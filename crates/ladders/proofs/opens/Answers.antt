@@ -1,6 +1,4 @@
 -- `ladders::opens` meets its contract: the filled book is judged, and then the starts. Assumes nothing.
-use native.Mathlib.Omega.{arith}
-use borrow.Author.Rules.{rules}
 use Rattle.book.proofs.Decide.{holds, fails, decides_same}
 use Rattle.ladders.proofs.Laws.{formed, opens_by, starts_by}
 use Rattle.ladders.proofs.opens.Goals as goal

@@ -3,7 +3,7 @@ use Prim.Native.Nat.{◌*◌, ◌-◌, ◌^◌}
 use native.Mathlib.Omega.{arith}
 use Rattle.definitions.specs.Ladder.{ladder_row, ladder_rows}
 use Rattle.storing.proofs.Laws.{stored_length}
-use Rattle.storing.proofs.Pieces.{Pieces, pieces_none, pieces_room, pieces_more, pieces_all}
+use Rattle.storing.proofs.Pieces.{pieces_none, pieces_room, pieces_more, pieces_all}
 use Rattle.ladders.proofs.put_rows.Goals as goal
 
 pub loop-n-init : goal.loop-n-init

@@ -1,9 +1,7 @@
 -- `ladders::put_rows` meets its contract: what is stored so far are the rows passed. Assumes nothing.
-use Prim.Native.Nat.{◌*◌, ◌-◌, ◌^◌}
-use native.Mathlib.Omega.{arith}
-use Rattle.definitions.specs.Ladder.{ladder_row, ladder_rows}
-use Rattle.storing.proofs.Laws.{stored_length}
-use Rattle.storing.proofs.Pieces.{Pieces, pieces_none, pieces_room, pieces_more, pieces_all}
+use Prim.Native.Nat.{◌*◌, ◌-◌}
+use Rattle.definitions.specs.Ladder.{ladder_row}
+use Rattle.storing.proofs.Pieces.{Pieces}
 use Rattle.ladders.proofs.put_rows.Given as goal
 
 abbrev pub invariant-loop-n : goal.invariant-loop-n

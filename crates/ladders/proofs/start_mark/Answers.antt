@@ -1,6 +1,4 @@
 -- `ladders::start_mark` meets its contract: the start node of the owner is the node, or not. Assumes nothing.
-use native.Mathlib.Omega.{arith}
-use borrow.Author.Rules.{rules}
 use Rattle.definitions.specs.Book.{tree_of}
 use Rattle.definitions.proofs.Words.{present_word, no_owner, owner_range}
 use Rattle.ladders.proofs.Laws.{mark_none, mark_start, mark_other}

@@ -1,6 +1,5 @@
 -- `ladders::start_right` meets its contract: two words are compared. Assumes nothing.
 use mathlib.Core.Path.{sym, ◌∙◌}
-use borrow.Author.Rules.{rules}
 use Rattle.book.proofs.Decide.{decides_equal}
 use Rattle.ladders.proofs.start_right.Goals as goal
 

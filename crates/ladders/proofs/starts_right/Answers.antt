@@ -1,10 +1,8 @@
 -- `ladders::starts_right` meets its contract. The loop's invariant: the rows before `n` have their starts right. Assumes nothing.
-use Prim.Native.Nat.{ℕ, ◌-◌, ◌/◌, ◌≤◌, ◌<◌}
+use Prim.Native.Nat.{◌-◌}
 use native.Mathlib.Omega.{arith}
 use borrow.Author.Count.{below_none, below_more}
-use borrow.Author.Rules.{rules}
 use Rattle.definitions.specs.Book.{tree_of}
-use Rattle.definitions.specs.Open.{row_count}
 use Rattle.book.proofs.Decide.{passed, refused}
 use Rattle.ladders.specs.Meaning.{StartRight}
 use Rattle.std.proofs.lemmas.Bool.{not_from_false, not_from_true}

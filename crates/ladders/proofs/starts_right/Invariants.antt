@@ -1,11 +1,7 @@
 -- `ladders::starts_right` meets its contract. The loop's invariant: the rows before `n` have their starts right. Assumes nothing.
-use Prim.Native.Nat.{ℕ, ◌-◌, ◌/◌, ◌≤◌, ◌<◌}
-use native.Mathlib.Omega.{arith}
-use borrow.Author.Count.{below_none, below_more}
-use borrow.Author.Rules.{rules}
+use Prim.Native.Nat.{ℕ, ◌-◌, ◌≤◌, ◌<◌}
 use Rattle.definitions.specs.Book.{tree_of}
 use Rattle.definitions.specs.Open.{row_count}
-use Rattle.book.proofs.Decide.{passed, refused}
 use Rattle.ladders.specs.Meaning.{StartRight}
 use Rattle.ladders.proofs.starts_right.Given as goal
 

@@ -1,5 +1,4 @@
 -- `lines::next_line` meets its contract: the end, a plan, or a refused command. Assumes nothing.
-use borrow.Author.Rules.{rules}
 use Rattle.lines.proofs.Turns.{refused_inside, says_end, says_answered, says_stopped}
 use Rattle.lines.proofs.next_line.Goals as goal
 

@@ -1,7 +1,6 @@
 -- `lines::plan_line` meets its contract: Plan's answer is the line that is written. Assumes nothing.
 use mathlib.Core.Path.{refl, ap}
 use native.Mathlib.Omega.{arith}
-use borrow.Author.Rules.{rules}
 use Rattle.planning.specs.Meaning.{answer_of}
 use Rattle.lines.proofs.Plans.{prints_no, prints_plan, plan_room}
 use Rattle.lines.proofs.plan_line.Goals as goal

@@ -1,5 +1,4 @@
 -- `lines::plan_turn` meets its contract: the plan is cut short, or its line is given. Assumes nothing.
-use borrow.Author.Rules.{rules}
 use Rattle.lines.proofs.Turns.{plan_cut, plan_whole}
 use Rattle.lines.proofs.plan_turn.Goals as goal
 

@@ -1,5 +1,4 @@
 -- `lines::put_number` meets its contract: a space, then the digits. Assumes nothing.
-use borrow.Author.Rules.{rules}
 use Rattle.storing.proofs.Laws.{stored_then}
 use Rattle.lines.proofs.put_number.Goals as goal
 

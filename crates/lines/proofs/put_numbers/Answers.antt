@@ -1,11 +1,8 @@
 -- `lines::put_numbers` meets its contract: what is stored so far is the numbers passed. Assumes nothing.
-use Prim.Native.Nat.{◌-◌, ◌≤◌}
+use Prim.Native.Nat.{◌-◌}
 use native.Mathlib.Omega.{arith}
-use lib.ListN.{get_or, take}
-use borrow.Author.Rules.{rules}
-use Rattle.storing.specs.Stored.{Stored}
+use lib.ListN.{get_or}
 use Rattle.storing.proofs.Laws.{stored_length}
-use Rattle.lines.specs.Meaning.{numbers}
 use Rattle.lines.proofs.Digits.{decimal_byte}
 use Rattle.lines.proofs.Written.{numbers_start, numbers_on, numbers_place, numbers_all}
 use Rattle.lines.proofs.put_numbers.Goals as goal

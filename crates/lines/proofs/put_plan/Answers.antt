@@ -1,7 +1,6 @@
 -- `lines::put_plan` meets its contract: the parts of the line one after the other. Assumes nothing.
 use native.Mathlib.Omega.{arith}
 use lib.ListN.{get_or}
-use borrow.Author.Rules.{rules}
 use Rattle.lines.proofs.Digits.{decimal_short, decimal_byte}
 use Rattle.lines.proofs.Written.{numbers_place, plan_written}
 use Rattle.lines.proofs.put_plan.Goals as goal

@@ -1,6 +1,5 @@
 -- `lines::put_stop` meets its contract: the parts of the line one after the other. Assumes nothing.
 use native.Mathlib.Omega.{arith}
-use borrow.Author.Rules.{rules}
 use Rattle.lines.proofs.Digits.{decimal_length}
 use Rattle.lines.proofs.Written.{stop_written}
 use Rattle.lines.proofs.put_stop.Goals as goal

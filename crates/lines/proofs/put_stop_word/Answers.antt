@@ -1,5 +1,4 @@
 -- `lines::put_stop_word` meets its contract: its bytes are stored one after the other. Assumes nothing.
-use borrow.Author.Rules.{rules}
 use Rattle.storing.proofs.Laws.{stored_then}
 use Rattle.lines.proofs.put_stop_word.Goals as goal
 

@@ -4,10 +4,8 @@ use mathlib.Core.Path.{sym, ◌∙◌, ap}
 use Prim.Native.Nat.{◌+◌, ◌-◌, ◌≤◌, ◌<◌}
 use native.Mathlib.Omega.{arith}
 use lib.ListN.{length, drop}
-use borrow.Author.Rules.{rules}
 use Rattle.loading.specs.Loading.{TookNext, Stays}
 use Rattle.loading.proofs.Turns.{turned_took, turned_stays}
-use Rattle.lines.specs.Meaning.{Taken}
 use Rattle.lines.proofs.Turns.{taken_starts, taken_size, taken_on, taken_halts}
 use Rattle.lines.proofs.take_commands.Goals.{In-Stopped, In-Took}
 use Rattle.lines.proofs.take_commands.Goals as goal

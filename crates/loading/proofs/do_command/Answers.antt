@@ -1,7 +1,6 @@
 -- `loading::do_command` meets its contract: each command by its own function. Assumes nothing.
 use mathlib.Core.Path.{refl}
 use Rattle.loading.proofs.Commands.{narrow, begin_range, ready, edit_done, refresh_done}
-use borrow.Author.Rules.{rules}
 use Rattle.loading.proofs.do_command.Goals as goal
 
 pub do_begin-requires : goal.do_begin-requires

@@ -3,7 +3,6 @@ use Rattle.definitions.specs.Book.{tree_of, WellFormed}
 use Rattle.definitions.specs.Truth.{TrueSheet}
 use Rattle.book.proofs.Decide.{passed, refused}
 use Rattle.loading.proofs.Says.{says_length, says_torn, says_untrue, says_done}
-use borrow.Author.Rules.{rules}
 use Rattle.std.proofs.lemmas.Bool.{not_from_false, not_from_true}
 use Rattle.loading.proofs.load.Goals.{Else-not-true_sheet, Else-not-well_formed}
 use Rattle.loading.proofs.load.Goals as goal

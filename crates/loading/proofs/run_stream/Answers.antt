@@ -4,8 +4,7 @@ use mathlib.Core.Path.{sym, ◌∙◌, ap}
 use Prim.Native.Nat.{◌+◌, ◌-◌, ◌≤◌, ◌<◌}
 use native.Mathlib.Omega.{arith}
 use lib.ListN.{length, drop}
-use borrow.Author.Rules.{rules}
-use Rattle.loading.specs.Loading.{TookNext, Stays, Underway}
+use Rattle.loading.specs.Loading.{TookNext, Stays}
 use Rattle.loading.proofs.Turns.{turned_took, turned_stays, turn_size, underway_starts, underway_on, underway_ends}
 use Rattle.loading.proofs.run_stream.Goals.{In-Stopped, In-Took}
 use Rattle.loading.proofs.run_stream.Goals as goal

@@ -4,7 +4,6 @@ use lib.ListN.{drop}
 use Rattle.definitions.specs.Stream.{taken, read_next}
 use Rattle.reading.specs.Meaning.{command_of, read_of, NarrowRead}
 use Rattle.loading.proofs.Turns.{turn_ended, turn_unread, turn_refused, turn_taken}
-use borrow.Author.Rules.{rules}
 use Rattle.loading.proofs.take_next.Goals.{In-Taken}
 use Rattle.loading.proofs.take_next.Goals as goal
 

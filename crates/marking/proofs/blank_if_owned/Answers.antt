@@ -2,7 +2,6 @@
 use borrow.Author.Tests.{eq-eqb, ne_eqb}
 use lib.ListN.{get_or}
 use Rattle.marking.proofs.Blanks.{blank_unused, owner_in_range, blank_other, blank_own}
-use borrow.Author.Rules.{rules}
 use Rattle.marking.proofs.blank_if_owned.Goals as goal
 
 pub returns-then-m-eq-ABSENT : goal.returns-then-m-eq-ABSENT

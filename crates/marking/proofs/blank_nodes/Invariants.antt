@@ -1,12 +1,9 @@
 -- `marking::blank_nodes` meets its contract: after each turn the nodes of the list's machines below n are blank. Assumes nothing.
-use mathlib.Core.Path.{sym, ◌∙◌}
 use Prim.Native.Nat.{◌≤◌, ◌-◌}
-use native.Mathlib.Omega.{arith}
 use Rattle.definitions.specs.Limits.{nodes}
 use Rattle.definitions.specs.Book.{tree_of}
 use Rattle.book.specs.Chosen.{chosen, up_to}
 use Rattle.marking.specs.Stale.{owned_by, LeavesBlank}
-use Rattle.marking.proofs.Blanks.{blanking_none, blanking_more, blanking_all}
 use Rattle.marking.proofs.blank_nodes.Given as goal
 
 abbrev pub invariant-loop-n : goal.invariant-loop-n

@@ -1,7 +1,6 @@
 -- `marking::mark` meets its contract: the mark, and then the machine's row. Assumes nothing.
 use Rattle.sheet.specs.Fields.{with_blank_machine}
 use Rattle.sheet.proofs.Stores.{leaves_then}
-use borrow.Author.Rules.{rules}
 use Rattle.marking.proofs.mark.Goals as goal
 
 pub returns : goal.returns

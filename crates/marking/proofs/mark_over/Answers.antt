@@ -1,11 +1,9 @@
 -- `marking::mark_over` meets its contract: the machines over n are those listed and those over the node in hand, and each turn goes one
 -- level up. Assumes nothing.
 use mathlib.Core.Path.{sym, ◌∙◌}
-use Rattle.definitions.specs.Tree.{UsedNode, level, over}
 use Rattle.definitions.specs.Book.{tree_of}
 use Rattle.stepping.proofs.Laws.{used_range}
-use Rattle.marking.proofs.Climb.{Climbing, climb_starts, machine_range, stops_told, ends_told, goes_on_told, holder_used, higher_told}
-use borrow.Author.Rules.{rules}
+use Rattle.marking.proofs.Climb.{climb_starts, machine_range, stops_told, ends_told, goes_on_told, holder_used, higher_told}
 use Rattle.marking.proofs.mark_over.Goals as goal
 
 pub loop-list-init : goal.loop-list-init

@@ -2,7 +2,6 @@
 -- marked, and then their nodes' rows are blanked. Assumes nothing.
 use Rattle.stepping.proofs.Laws.{used_range}
 use Rattle.marking.proofs.Climb.{machine_range, idle_told, touched_told}
-use borrow.Author.Rules.{rules}
 use Rattle.marking.proofs.touch.Goals as goal
 
 pub owner-m-requires : goal.owner-m-requires

@@ -1,6 +1,5 @@
 -- `merging::beside_hold` meets its contract: the first book's hold, and that of the node that moved there. Assumes nothing.
 use native.Mathlib.Omega.{arith}
-use borrow.Author.Rules.{rules}
 use Rattle.merging.proofs.Beside.{sum_own, sum_from, sum_fits, sum_moved, hold_sums}
 use Rattle.merging.proofs.beside_hold.Goals as goal
 

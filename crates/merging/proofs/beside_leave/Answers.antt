@@ -1,6 +1,5 @@
 -- `merging::beside_leave` meets its contract: the first book's leaving cost, and that of the machine that moved there. Assumes nothing.
 use native.Mathlib.Omega.{arith}
-use borrow.Author.Rules.{rules}
 use Rattle.merging.proofs.Beside.{sum_own, sum_from, sum_fits, sum_moved, leave_sums}
 use Rattle.merging.proofs.beside_leave.Goals as goal
 

@@ -1,7 +1,6 @@
 -- `merging::beside_machine` meets its contract: the first book's word, or else the second's at its new number. Assumes nothing.
 use mathlib.Core.Path.{◌∙◌}
 use native.Mathlib.Omega.{arith}
-use borrow.Author.Rules.{rules}
 use Rattle.definitions.specs.Book.{tree_of}
 use Rattle.merging.proofs.Beside.{machine_number_lem, machine_joins, own_word, none_word, from_under, other_under, moved_number}
 use Rattle.merging.proofs.beside_machine.Goals as goal

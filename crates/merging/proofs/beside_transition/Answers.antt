@@ -1,6 +1,5 @@
 -- `merging::beside_transition` meets its contract: the first book's transition, or else the second's at its new numbers. Assumes nothing.
 use native.Mathlib.Omega.{arith}
-use borrow.Author.Rules.{rules}
 use Rattle.merging.proofs.Transitions.{transition_own, transition_none, node_under, transition_absent, target_under, target_moved}
 use Rattle.merging.proofs.Transitions.{transition_moved}
 use Rattle.merging.proofs.beside_transition.Goals as goal

@@ -2,7 +2,6 @@
 use native.Mathlib.Omega.{arith}
 use Rattle.book.proofs.Decide.{passed, refused}
 use Rattle.merging.proofs.Says.{wrong_length, first_torn, second_torn, both_formed}
-use borrow.Author.Rules.{rules}
 use Rattle.std.proofs.lemmas.Bool.{not_from_false, not_from_true}
 use Rattle.merging.proofs.merge.Goals as goal
 

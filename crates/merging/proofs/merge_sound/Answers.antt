@@ -4,7 +4,6 @@ use mathlib.Core.Path.{sym, ◌∙◌, ap}
 use lib.ListN.{length}
 use Rattle.definitions.proofs.Words.{encode_length}
 use Rattle.merging.proofs.Says.{numbered, root_range, none_holds, neither_absent, tree_refused, all_move, done}
-use borrow.Author.Rules.{rules}
 use Rattle.merging.proofs.merge_sound.Goals as goal
 
 pub returns-then-number-ne0 : goal.returns-then-number-ne0

@@ -1,7 +1,6 @@
 -- `merging::merged_below` meets its contract: the new root's nodes hold the two old roots. Assumes nothing.
 use mathlib.Core.Path.{◌∙◌}
 use Rattle.merging.proofs.Rooted.{below_second, below_first, below_else}
-use borrow.Author.Rules.{rules}
 use Rattle.merging.proofs.merged_below.Goals as goal
 
 pub returns-then-n-h : goal.returns-then-n-h

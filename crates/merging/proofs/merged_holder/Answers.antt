@@ -1,7 +1,6 @@
 -- `merging::merged_holder` meets its contract: the two old roots are held by the new root's nodes. Assumes nothing.
 use mathlib.Core.Path.{sym, ◌∙◌}
 use Rattle.merging.proofs.Rooted.{holder_second, holder_first, holder_else}
-use borrow.Author.Rules.{rules}
 use Rattle.merging.proofs.merged_holder.Goals as goal
 
 pub returns-then-m-h : goal.returns-then-m-h

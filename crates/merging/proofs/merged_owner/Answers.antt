@@ -1,7 +1,6 @@
 -- `merging::merged_owner` meets its contract: the new root's nodes belong to it. Assumes nothing.
 use mathlib.Core.Path.{◌∙◌}
 use Rattle.merging.proofs.Rooted.{owner_second, owner_first, owner_else}
-use borrow.Author.Rules.{rules}
 use Rattle.merging.proofs.merged_owner.Goals as goal
 
 pub returns-then-n-h : goal.returns-then-n-h

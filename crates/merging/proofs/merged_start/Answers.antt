@@ -1,7 +1,6 @@
 -- `merging::merged_start` meets its contract: the new root starts at the lower of its nodes. Assumes nothing.
 use mathlib.Core.Path.{◌∙◌}
 use Rattle.merging.proofs.Rooted.{start_root, start_else}
-use borrow.Author.Rules.{rules}
 use Rattle.merging.proofs.merged_start.Goals as goal
 
 pub returns-then-m-h : goal.returns-then-m-h

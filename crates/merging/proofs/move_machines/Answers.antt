@@ -3,7 +3,6 @@ use Rattle.definitions.specs.Limits.{machines}
 use Rattle.definitions.specs.Tree.{used_machine}
 use Rattle.definitions.specs.Book.{tree_of}
 use Rattle.merging.proofs.Flags.{told_to, told_from, told_next}
-use borrow.Author.Rules.{rules}
 use Rattle.merging.proofs.move_machines.Goals as goal
 
 pub returns : goal.returns

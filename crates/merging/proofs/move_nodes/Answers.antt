@@ -3,7 +3,6 @@ use Rattle.definitions.specs.Limits.{nodes}
 use Rattle.definitions.specs.Tree.{used_node}
 use Rattle.definitions.specs.Book.{tree_of}
 use Rattle.merging.proofs.Flags.{told_to, told_from, told_next, told_after}
-use borrow.Author.Rules.{rules}
 use Rattle.merging.proofs.move_nodes.Goals as goal
 
 pub returns : goal.returns

@@ -1,6 +1,5 @@
 -- `merging::moved_word` meets its contract. Assumes nothing.
 use mathlib.Core.Path.{sym}
-use borrow.Author.Rules.{rules}
 use borrow.Author.Tests.{eq-eqb, ne_eqb}
 use Rattle.merging.proofs.moved_word.Goals as goal
 

@@ -1,6 +1,5 @@
 -- `merging::too_deep` meets its contract. Assumes nothing.
 use Rattle.judging.proofs.Laws.{first_holds, first_fails}
-use borrow.Author.Rules.{rules}
 use Rattle.merging.proofs.too_deep.Goals as goal
 
 pub returns-then-any_lowest : goal.returns-then-any_lowest

@@ -1,16 +1,10 @@
 -- `merging::used_machines` meets its contract. The loop's invariant: the list has what it should under `m`. Assumes nothing.
-use mathlib.Core.Path.{◌≡◌, sym, ◌∙◌}
 use mathlib.Core.Bool.{cond}
 use Prim.Native.Nat.{◌-◌, ◌≤◌}
-use native.Mathlib.Omega.{arith}
-use borrow.Author.Rules.{rules}
 use Rattle.definitions.specs.Limits.{machines}
 use Rattle.definitions.specs.Tree.{used_machine}
 use Rattle.definitions.specs.Book.{tree_of}
-use Rattle.definitions.proofs.Words.{start_range}
 use Rattle.numbering.specs.Tests.{FrontWords}
-use Rattle.numbering.proofs.Laws.{front_none, front_more, front_all}
-use Rattle.merging.proofs.Flags.{flag}
 use Rattle.merging.proofs.used_machines.Given as goal
 
 abbrev pub invariant-loop-m : goal.invariant-loop-m

@@ -1,16 +1,10 @@
 -- `merging::used_nodes` meets its contract. The loop's invariant: the list has what it should under `n`. Assumes nothing.
-use mathlib.Core.Path.{◌≡◌, sym, ◌∙◌}
 use mathlib.Core.Bool.{cond}
 use Prim.Native.Nat.{◌-◌, ◌≤◌}
-use native.Mathlib.Omega.{arith}
-use borrow.Author.Rules.{rules}
 use Rattle.definitions.specs.Limits.{nodes}
 use Rattle.definitions.specs.Tree.{used_node}
 use Rattle.definitions.specs.Book.{tree_of}
-use Rattle.definitions.proofs.Words.{owner_range}
 use Rattle.numbering.specs.Tests.{FrontWords}
-use Rattle.numbering.proofs.Laws.{front_none, front_more, front_all}
-use Rattle.merging.proofs.Flags.{flag}
 use Rattle.merging.proofs.used_nodes.Given as goal
 
 abbrev pub invariant-loop-n : goal.invariant-loop-n

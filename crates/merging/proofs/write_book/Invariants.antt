@@ -1,12 +1,8 @@
 -- `merging::write_book` meets its contract. The loop's invariant: the book has the records of the nodes under `n`. Assumes nothing.
-use mathlib.Core.Path.{◌≡◌, sym, ◌∙◌}
 use Prim.Native.Nat.{◌-◌, ◌≤◌}
-use native.Mathlib.Omega.{arith}
 use Rattle.definitions.specs.Limits.{machines, nodes}
 use Rattle.book.specs.Recorded.{Recorded}
-use Rattle.book.proofs.Recorded.{recorded_nodes, recorded_all}
 use Rattle.merging.specs.Merging.{rooted_tree}
-use Rattle.merging.proofs.Rooted.{recorded_rooted}
 use Rattle.merging.proofs.write_book.Given as goal
 
 abbrev pub invariant-loop-n : goal.invariant-loop-n

@@ -1,11 +1,9 @@
 -- `merging::write_machines` meets its contract. The loop's invariant: the book has the records of the machines under `m`. Assumes nothing.
 use mathlib.Core.Path.{◌≡◌, sym, ◌∙◌}
-use Prim.Native.Nat.{◌-◌, ◌≤◌}
+use Prim.Native.Nat.{◌-◌}
 use native.Mathlib.Omega.{arith}
 use Rattle.definitions.specs.Limits.{machines}
-use Rattle.book.specs.Recorded.{Recorded}
 use Rattle.book.proofs.Recorded.{recorded_machine, recorded_machines}
-use Rattle.merging.specs.Merging.{rooted_tree}
 use Rattle.merging.proofs.Rooted.{leave_else}
 use Rattle.merging.proofs.write_machines.Goals as goal
 

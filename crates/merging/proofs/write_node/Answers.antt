@@ -1,6 +1,5 @@
 -- `merging::write_node` meets its contract: the owner, the machine below, then the transitions and the hold. Assumes nothing.
 use mathlib.Core.Path.{◌∙◌}
-use borrow.Author.Rules.{rules}
 use Rattle.book.proofs.Recorded.{recorded_word, recorded_node}
 use Rattle.merging.proofs.Rooted.{hold_else}
 use Rattle.merging.proofs.write_node.Goals as goal

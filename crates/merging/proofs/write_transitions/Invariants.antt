@@ -1,14 +1,11 @@
 -- `merging::write_transitions` meets its contract. The loop's invariant: the book has the node's transitions for the commands under `x`. Assumes
 -- nothing.
-use mathlib.Core.Path.{◌≡◌, sym, ◌∙◌}
+use mathlib.Core.Path.{◌≡◌}
 use Prim.Native.Nat.{ℕ, ◌+◌, ◌-◌, ◌≤◌}
-use native.Mathlib.Omega.{arith}
 use lib.ListN.{length}
 use Rattle.definitions.specs.Limits.{machines, commands, book_length}
 use Rattle.book.specs.Recorded.{Recorded}
-use Rattle.book.proofs.Recorded.{recorded_fields}
 use Rattle.merging.specs.Merging.{rooted_tree}
-use Rattle.merging.proofs.Rooted.{recorded_transition}
 use Rattle.merging.proofs.write_transitions.Given as goal
 
 abbrev pub invariant-loop-x : goal.invariant-loop-x

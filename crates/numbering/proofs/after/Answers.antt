@@ -1,5 +1,4 @@
 -- `numbering::after` meets its contract: the number of the next rank is the lowest one past it. Assumes nothing.
-use borrow.Author.Rules.{rules}
 use Rattle.numbering.proofs.Laws.{ranked_after, none_after}
 use Rattle.numbering.proofs.after.Goals as goal
 

@@ -1,11 +1,9 @@
 -- `numbering::next_from` meets its contract. The loop's invariant: no number from i up to k has the word. Assumes nothing.
-use mathlib.Core.Path.{◌≡◌, refl}
+use mathlib.Core.Path.{◌≡◌}
 use Prim.Native.Nat.{◌-◌, ◌≤◌}
-use native.Mathlib.Omega.{arith}
 use lib.ListN.{length}
 use Rattle.definitions.specs.Basics.{count_below}
 use Rattle.numbering.specs.Tests.{has}
-use Rattle.numbering.proofs.Laws.{lowest_here, lowest_on, lowest_none}
 use Rattle.numbering.proofs.next_from.Given as goal
 
 abbrev pub invariant-loop-k : goal.invariant-loop-k

@@ -1,9 +1,9 @@
 -- `opening::clear` meets its contract: the machines passed, and then the nodes passed, are unused. Assumes nothing.
 use mathlib.Core.Path.{◌≡◌, sym, ◌∙◌, subst}
-use Prim.Native.Nat.{◌+◌, ◌-◌, ◌≤◌}
+use Prim.Native.Nat.{◌+◌, ◌-◌}
 use native.Mathlib.Omega.{arith}
 use lib.ListN.{length}
-use Rattle.definitions.specs.Limits.{machines, nodes, book_length}
+use Rattle.definitions.specs.Limits.{machines, nodes}
 use Rattle.definitions.specs.Tree.{Tree}
 use Rattle.definitions.specs.Book.{tree_of}
 use Rattle.opening.proofs.Blank.{Cleared, cleared_none, cleared_machine, cleared_node, cleared_all}

@@ -1,12 +1,10 @@
 -- `opening::clear` meets its contract: the machines passed, and then the nodes passed, are unused. Assumes nothing.
-use mathlib.Core.Path.{◌≡◌, sym, ◌∙◌, subst}
-use Prim.Native.Nat.{◌+◌, ◌-◌, ◌≤◌}
-use native.Mathlib.Omega.{arith}
+use mathlib.Core.Path.{◌≡◌}
+use Prim.Native.Nat.{◌-◌, ◌≤◌}
 use lib.ListN.{length}
 use Rattle.definitions.specs.Limits.{machines, nodes, book_length}
-use Rattle.definitions.specs.Tree.{Tree}
 use Rattle.definitions.specs.Book.{tree_of}
-use Rattle.opening.proofs.Blank.{Cleared, cleared_none, cleared_machine, cleared_node, cleared_all}
+use Rattle.opening.proofs.Blank.{Cleared}
 use Rattle.opening.proofs.clear.Given as goal
 
 abbrev pub invariant-loop-m : goal.invariant-loop-m

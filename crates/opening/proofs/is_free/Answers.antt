@@ -4,7 +4,6 @@ use borrow.Author.Tests.{ne_eqb}
 use Rattle.definitions.specs.Limits.{absent}
 use Rattle.definitions.specs.Book.{word, tree_of}
 use Rattle.opening.proofs.Reading.{free_told}
-use borrow.Author.Rules.{rules}
 use Rattle.opening.proofs.is_free.Goals as goal
 
 pub returns-then-start-eq-ABSENT : goal.returns-then-start-eq-ABSENT

@@ -7,7 +7,6 @@ use Rattle.definitions.specs.Book.{word}
 use Rattle.definitions.specs.Open.{ladder_below, cell}
 use Rattle.opening.specs.Ladder.{ladder_right}
 use Rattle.opening.proofs.Ladder.{table_rows}
-use borrow.Author.Rules.{rules}
 use Rattle.opening.proofs.ladder_number.Goals as goal
 
 pub row-requires : goal.row-requires

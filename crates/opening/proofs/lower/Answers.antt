@@ -2,9 +2,8 @@
 use Rattle.definitions.specs.Book.{word}
 use Rattle.opening.proofs.Reading.{lower_none, lower_last, lower_met, lower_passed}
 use mathlib.Core.Path.{◌≡◌, refl, sym, ◌∙◌, ap}
-use Prim.Native.Nat.{ℕ, ◌≤◌}
+use Prim.Native.Nat.{ℕ}
 use native.Mathlib.Omega.{arith}
-use borrow.Author.Rules.{rules}
 use Rattle.definitions.specs.Basics.{is_at}
 use Rattle.opening.specs.Rows.{last_under, row_owner}
 use Rattle.opening.proofs.lower.Goals as goal

@@ -1,10 +1,6 @@
 -- `opening::lower` meets its contract: the loop goes down from n, and no node that it passed has n's owner. Assumes nothing.
-use Rattle.definitions.specs.Book.{word}
-use Rattle.opening.proofs.Reading.{lower_none, lower_last, lower_met, lower_passed}
-use mathlib.Core.Path.{◌≡◌, refl, sym, ◌∙◌, ap}
-use Prim.Native.Nat.{ℕ, ◌≤◌}
-use native.Mathlib.Omega.{arith}
-use borrow.Author.Rules.{rules}
+use mathlib.Core.Path.{◌≡◌}
+use Prim.Native.Nat.{◌≤◌}
 use Rattle.definitions.specs.Basics.{is_at}
 use Rattle.opening.specs.Rows.{last_under, row_owner}
 use Rattle.opening.proofs.lower.Given as goal

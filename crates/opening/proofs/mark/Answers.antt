@@ -5,7 +5,6 @@ use borrow.Author.Tests.{eq-eqb, ne_eqb}
 use Rattle.definitions.specs.Limits.{absent}
 use Rattle.definitions.specs.Book.{word, tree_of}
 use Rattle.opening.proofs.Reading.{used_told}
-use borrow.Author.Rules.{rules}
 use Rattle.opening.proofs.mark.Goals as goal
 
 pub returns-then-start-eq-ABSENT : goal.returns-then-start-eq-ABSENT

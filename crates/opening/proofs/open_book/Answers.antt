@@ -1,7 +1,6 @@
 -- `opening::open_book` meets its contract: the rows are written into a cleared book, and then the root. Assumes nothing.
 use mathlib.Core.Path.{sym, ◌∙◌}
 use Rattle.opening.proofs.Says.{book_rooted}
-use borrow.Author.Rules.{rules}
 use Rattle.opening.proofs.open_book.Goals as goal
 
 pub set_rows-requires : goal.set_rows-requires

@@ -2,7 +2,6 @@
 use native.Mathlib.Omega.{arith}
 use Rattle.opening.specs.Rows.{row_tree}
 use Rattle.opening.proofs.Says.{refused, opened}
-use borrow.Author.Rules.{rules}
 use Rattle.opening.proofs.open_checked.Goals as goal
 
 pub returns-then-book-ne-BOOK : goal.returns-then-book-ne-BOOK

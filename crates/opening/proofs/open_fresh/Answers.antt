@@ -5,7 +5,6 @@ use Rattle.definitions.specs.Open.{fresh_tree, fresh, ComesOf}
 use Rattle.opening.specs.Writes.{OpenedAs}
 use Rattle.opening.proofs.Fresh.{fresh_rows_lem}
 use Rattle.opening.proofs.Says.{opened_as}
-use borrow.Author.Rules.{rules}
 use Rattle.opening.proofs.open_fresh.Goals as goal
 
 pub returns : goal.returns

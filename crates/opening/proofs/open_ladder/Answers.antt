@@ -7,7 +7,6 @@ use Rattle.opening.specs.Ladder.{ladder_right}
 use Rattle.opening.specs.Writes.{OpenedAs}
 use Rattle.opening.proofs.Ladder.{table_tree}
 use Rattle.opening.proofs.Says.{opened_as}
-use borrow.Author.Rules.{rules}
 use Rattle.opening.proofs.open_ladder.Goals as goal
 
 pub returns : goal.returns

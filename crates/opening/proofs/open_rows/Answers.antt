@@ -1,6 +1,5 @@
 -- `opening::open_rows` meets its contract: the sheet's marks are those of the book that is written. Assumes nothing.
 use Rattle.opening.proofs.Says.{rows_opened}
-use borrow.Author.Rules.{rules}
 use Rattle.opening.proofs.open_rows.Goals as goal
 
 pub returns : goal.returns

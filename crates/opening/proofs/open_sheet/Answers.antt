@@ -1,14 +1,13 @@
 -- `opening::open_sheet` meets its contract: the rows of the machines passed, and then of the nodes passed, are an opening's. Assumes nothing.
 use mathlib.Core.Path.{◌≡◌, sym, ◌∙◌, subst}
-use Prim.Native.Nat.{◌+◌, ◌-◌, ◌≤◌}
+use Prim.Native.Nat.{◌+◌, ◌-◌}
 use native.Mathlib.Omega.{arith}
-use borrow.Author.Rules.{rules}
 use lib.Dec.{eqb}
 use lib.ListN.{length}
-use Rattle.definitions.specs.Limits.{machines, nodes, sheet_length}
+use Rattle.definitions.specs.Limits.{machines, nodes}
 use Rattle.definitions.specs.Book.{tree_of}
 use Rattle.definitions.specs.Sheet.{Rows, rows_of}
-use Rattle.sheet.specs.Fields.{Marks, with_blank_machine}
+use Rattle.sheet.specs.Fields.{with_blank_machine}
 use Rattle.sheet.proofs.Stores.{leaves_then}
 use Rattle.opening.proofs.Blank.{Opened, opened_none, opened_machine, opened_node, opened_all}
 use Rattle.opening.proofs.open_sheet.Goals as goal

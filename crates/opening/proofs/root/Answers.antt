@@ -1,10 +1,8 @@
 -- `opening::root` meets its contract: r is the last machine passed that is in use and that no node holds. Assumes nothing.
 use mathlib.Core.Path.{◌≡◌, refl, sym, ◌∙◌, ap}
-use mathlib.Core.Logic.{⊎_elim}
-use Prim.Native.Nat.{ℕ, ◌-◌, ◌≤◌}
+use Prim.Native.Nat.{ℕ, ◌-◌}
 use native.Mathlib.Numerals.{add-one}
 use native.Mathlib.Omega.{arith}
-use borrow.Author.Rules.{rules}
 use Rattle.definitions.specs.Limits.{machines}
 use Rattle.definitions.specs.Book.{word, tree_of}
 use Rattle.opening.specs.Rows.{last_under, free, root_of}

@@ -6,7 +6,6 @@ use lib.ListN.{get_or}
 use Rattle.definitions.specs.Limits.{absent}
 use Rattle.definitions.specs.Open.{cell}
 use Rattle.opening.proofs.Reading.{get_d_any}
-use borrow.Author.Rules.{rules}
 use Rattle.opening.proofs.row.Goals as goal
 
 pub returns : goal.returns

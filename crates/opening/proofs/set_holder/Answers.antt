@@ -5,7 +5,6 @@ use borrow.Author.Tests.{lt-ltb, le-ltb, ne_eqb}
 use Rattle.definitions.specs.Limits.{machines, absent}
 use Rattle.definitions.specs.Book.{number}
 use Rattle.opening.specs.Writes.{with_held}
-use borrow.Author.Rules.{rules}
 use Rattle.opening.proofs.set_holder.Goals as goal
 
 pub returns-then-below-lt-MACHINES : goal.returns-then-below-lt-MACHINES

@@ -9,7 +9,6 @@ use Rattle.definitions.specs.Edit.{with_transition}
 use Rattle.book.proofs.Stores.{holds_then}
 use Rattle.opening.specs.Writes.{with_links}
 use Rattle.opening.proofs.Reading.{neighbour_word}
-use borrow.Author.Rules.{rules}
 use Rattle.opening.proofs.set_link.Goals as goal
 
 pub returns-then-lower-lt-NODES : goal.returns-then-lower-lt-NODES

@@ -1,7 +1,6 @@
 -- `opening::set_row` meets its contract: its stores are those of one row more. Assumes nothing.
 use native.Mathlib.Numerals.{add-one}
 use Rattle.opening.proofs.Growth.{row_written}
-use borrow.Author.Rules.{rules}
 use Rattle.opening.proofs.set_row.Goals as goal
 
 pub returns : goal.returns

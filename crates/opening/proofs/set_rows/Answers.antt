@@ -1,6 +1,6 @@
 -- `opening::set_rows` meets its contract: the book has the rows passed. Assumes nothing.
 use mathlib.Core.Path.{◌≡◌, sym, ◌∙◌, subst}
-use Prim.Native.Nat.{◌-◌, ◌≤◌}
+use Prim.Native.Nat.{◌-◌}
 use native.Mathlib.Omega.{arith}
 use Rattle.definitions.specs.Limits.{absent}
 use Rattle.book.specs.Fields.{Holds}

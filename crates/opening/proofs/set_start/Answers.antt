@@ -5,7 +5,6 @@ use borrow.Author.Tests.{lt-ltb, le-ltb, ne_eqb, eq-eqb}
 use Rattle.definitions.specs.Limits.{machines, absent}
 use Rattle.definitions.specs.Book.{number}
 use Rattle.opening.specs.Writes.{with_started}
-use borrow.Author.Rules.{rules}
 use Rattle.opening.proofs.set_start.Goals as goal
 
 pub returns-then-start-ne1 : goal.returns-then-start-ne1

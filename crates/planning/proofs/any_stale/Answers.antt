@@ -1,13 +1,12 @@
 -- `planning::any_stale` meets its contract. The loop's invariant: no machine below `m` is stale. Assumes nothing.
 use mathlib.Core.Path.{◌≡◌}
 use mathlib.Core.Bool.{false}
-use Prim.Native.Nat.{◌-◌, ◌≤◌}
+use Prim.Native.Nat.{◌-◌}
 use native.Mathlib.Omega.{arith}
 use borrow.Author.Count.{below_more}
-use Rattle.definitions.specs.Limits.{machines}
 use Rattle.definitions.specs.Sheet.{rows_of}
 use Rattle.sheet.proofs.Reading.{is_stale, is_filled}
-use Rattle.planning.proofs.Laws.{FreshBelow, all_fresh}
+use Rattle.planning.proofs.Laws.{all_fresh}
 use Rattle.planning.proofs.any_stale.Goals as goal
 
 -- src/lib.rt:83:5

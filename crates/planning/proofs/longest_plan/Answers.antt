@@ -1,9 +1,8 @@
 -- `planning::longest_plan` meets its contract. The loop's invariant: the states below `n` are counted. Assumes nothing.
 use Prim.Native.Nat.{◌-◌}
 use native.Mathlib.Omega.{arith}
-use Rattle.definitions.specs.Limits.{nodes}
 use Rattle.definitions.specs.Book.{tree_of}
-use Rattle.planning.proofs.Laws.{Counted, counted_none, counted_more, counted_all}
+use Rattle.planning.proofs.Laws.{counted_none, counted_more, counted_all}
 use Rattle.planning.proofs.longest_plan.Goals as goal
 
 -- src/lib.rt:67:5

@@ -3,7 +3,6 @@
 use mathlib.Core.Path.{refl}
 use native.Mathlib.Omega.{arith}
 use Rattle.planning.proofs.Laws.{no_way, cost_fits, names_lead, list_fits, planned}
-use borrow.Author.Rules.{rules}
 use Rattle.planning.proofs.make_plan.Goals as goal
 
 pub cross-requires : goal.cross-requires

@@ -3,7 +3,6 @@ use mathlib.Core.Path.{◌≡◌}
 use mathlib.Core.Bool.{false}
 use Prim.Native.Nat.{ℕ}
 use native.Mathlib.Omega.{arith}
-use borrow.Author.Rules.{rules}
 use Rattle.definitions.specs.Book.{tree_of, WellFormed}
 use Rattle.definitions.specs.Sheet.{rows_of}
 use Rattle.definitions.specs.Truth.{TrueSheet}

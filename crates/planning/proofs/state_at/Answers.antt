@@ -1,6 +1,5 @@
 -- `planning::state_at` meets its contract. Assumes nothing.
 use Rattle.planning.proofs.Laws.{unused_state, refined_state, plain_state}
-use borrow.Author.Rules.{rules}
 use Rattle.planning.proofs.state_at.Goals as goal
 
 -- src/lib.rt:52:9

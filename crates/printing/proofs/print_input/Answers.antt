@@ -1,5 +1,4 @@
 -- `printing::print_input` meets its contract: the turns begin on what the fresh opening left. Assumes nothing.
-use borrow.Author.Rules.{rules}
 use Rattle.printing.proofs.Runs.{from_fresh}
 use Rattle.printing.proofs.print_input.Goals as goal
 

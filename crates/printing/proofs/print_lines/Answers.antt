@@ -1,14 +1,13 @@
 -- `printing::print_lines` meets its contract: each turn goes on further in the input, on a well-formed book and a true sheet, and has one line
 -- more; at the end the turns made are all of them. Assumes nothing.
-use mathlib.Core.Path.{◌≡◌, refl, sym, ◌∙◌}
+use mathlib.Core.Path.{refl, sym, ◌∙◌}
 use Prim.Native.Nat.{◌-◌}
 use native.Mathlib.Omega.{arith}
 use lib.ListN.{length}
 use lib.Seq.{length-take-le}
-use borrow.Author.Rules.{rules}
 use Rattle.definitions.specs.Book.{tree_of}
 use Rattle.definitions.specs.Sheet.{rows_of}
-use Rattle.lines.specs.Meaning.{longest_line, TurnSays}
+use Rattle.lines.specs.Meaning.{TurnSays}
 use Rattle.lines.specs.declared.Turn.TheVariants.{Line, End}
 use Rattle.printing.proofs.Runs.{Running, run_starts, run_on, run_over, turn_told}
 use Rattle.printing.proofs.print_lines.Goals.{In-End, In-Line}

@@ -3,7 +3,6 @@
 use mathlib.Core.Path.{sym}
 use native.Mathlib.Omega.{arith}
 use lib.Seq.{length-take-le}
-use borrow.Author.Rules.{rules}
 use Rattle.definitions.specs.Limits.{longest_input}
 use Rattle.printing.proofs.Runs.{session_made, session_whole}
 use Rattle.printing.proofs.print_session.Goals as goal

@@ -1,9 +1,8 @@
 -- `readiness::count_states` meets its contract. The loop's invariant: the states below `n` are counted. Assumes nothing.
 use Prim.Native.Nat.{◌-◌}
 use native.Mathlib.Omega.{arith}
-use Rattle.definitions.specs.Limits.{nodes}
 use Rattle.definitions.specs.Book.{tree_of}
-use Rattle.readiness.proofs.Laws.{Counted, counted_none, counted_more, counted_all}
+use Rattle.readiness.proofs.Laws.{counted_none, counted_more, counted_all}
 use Rattle.readiness.proofs.count_states.Goals as goal
 
 pub loop-n-init : goal.loop-n-init

@@ -1,8 +1,6 @@
 -- `readiness::judge_between` meets its contract: the refusals of book and sheet, and past them those of the two states. Assumes nothing.
 use mathlib.Core.Path.{◌≡◌, refl}
-use mathlib.Core.List.{[]}
 use Prim.Native.Nat.{ℕ}
-use borrow.Author.Rules.{rules}
 use Rattle.definitions.specs.Book.{tree_of}
 use Rattle.definitions.specs.Calls.{state_refusals}
 use Rattle.definitions.proofs.Answers.{judged_met, judged_passed, in_order_after}

@@ -1,7 +1,6 @@
 -- `readiness::judge_fresh` meets its contract: each way out shows its refusal, or that none holds. Assumes nothing.
 use mathlib.Core.Path.{refl}
 use mathlib.Core.Logic.{inl, inr}
-use borrow.Author.Rules.{rules}
 use Rattle.definitions.specs.Book.{tree_of, WellFormed}
 use Rattle.definitions.specs.Truth.{TrueSheet}
 use Rattle.book.proofs.Decide.{holds, fails, passed, refused}

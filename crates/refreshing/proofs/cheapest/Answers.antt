@@ -1,8 +1,7 @@
 -- `refreshing::cheapest` meets its contract: the cheapest way out from the nodes at the places passed. Assumes nothing.
 use mathlib.Core.Path.{◌≡◌, sym, ◌∙◌, subst₂}
-use Prim.Native.Nat.{ℕ, ◌+◌, ◌≤◌, ◌-◌}
+use Prim.Native.Nat.{ℕ, ◌+◌, ◌-◌}
 use native.Mathlib.Omega.{arith}
-use mathlib.Core.Logic.{⊎_elim}
 use Rattle.definitions.specs.Book.{tree_of}
 use Rattle.definitions.specs.Sheet.{rows_of}
 use Rattle.search.specs.Parts.{at}

@@ -1,13 +1,9 @@
 -- `refreshing::cheapest` meets its contract: the cheapest way out from the nodes at the places passed. Assumes nothing.
-use mathlib.Core.Path.{◌≡◌, sym, ◌∙◌, subst₂}
-use Prim.Native.Nat.{ℕ, ◌+◌, ◌≤◌, ◌-◌}
-use native.Mathlib.Omega.{arith}
-use mathlib.Core.Logic.{⊎_elim}
+use Prim.Native.Nat.{◌≤◌, ◌-◌}
 use Rattle.definitions.specs.Book.{tree_of}
 use Rattle.definitions.specs.Sheet.{rows_of}
 use Rattle.search.specs.Parts.{at}
 use Rattle.refreshing.specs.Parts.{distances, Cheapest}
-use Rattle.refreshing.proofs.Exits.{cheapest_first, cheapest_better, cheapest_stays, cheapest_all}
 use Rattle.refreshing.proofs.cheapest.Given as goal
 
 abbrev pub invariant-loop-j : goal.invariant-loop-j

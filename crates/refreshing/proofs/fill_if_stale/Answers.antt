@@ -1,7 +1,6 @@
 -- `refreshing::fill_if_stale` meets its contract: a machine of another level, one that is not stale, one that can be filled. Assumes nothing.
 use mathlib.Core.Path.{◌∙◌}
 use Rattle.refreshing.proofs.Order.{step_other, step_fresh, step_fillable, step_filled}
-use borrow.Author.Rules.{rules}
 use Rattle.refreshing.proofs.fill_if_stale.Goals as goal
 
 pub returns-then-word-l : goal.returns-then-word-l

@@ -1,12 +1,9 @@
 -- `refreshing::fill_level` meets its contract: the machines passed that are of the level are filled. Assumes nothing.
-use mathlib.Core.Path.{sym, ◌∙◌}
 use Prim.Native.Nat.{◌-◌, ◌≤◌}
-use native.Mathlib.Omega.{arith}
 use Rattle.definitions.specs.Limits.{machines}
 use Rattle.definitions.specs.Book.{tree_of}
 use Rattle.search.specs.Tables.{TableRoom}
 use Rattle.refreshing.specs.Refresh.{LevelFilled}
-use Rattle.refreshing.proofs.Order.{level_none, level_low, level_more, level_all}
 use Rattle.refreshing.proofs.fill_level.Given as goal
 
 abbrev pub invariant-loop-m : goal.invariant-loop-m

@@ -3,7 +3,6 @@
 use mathlib.Core.Path.{refl}
 use native.Mathlib.Omega.{arith}
 use Rattle.refreshing.proofs.Machine.{searches_writable, searches_near, machine_filled}
-use borrow.Author.Rules.{rules}
 use Rattle.refreshing.proofs.fill_machine.Goals as goal
 
 pub find-k-requires : goal.find-k-requires

@@ -2,7 +2,6 @@
 -- Assumes nothing.
 use native.Mathlib.Omega.{arith}
 use Rattle.refreshing.proofs.Machine.{start_told, search_ready, searched_found}
-use borrow.Author.Rules.{rules}
 use Rattle.refreshing.proofs.find.Goals as goal
 
 pub tables-requires : goal.tables-requires

@@ -1,6 +1,5 @@
 -- `refreshing::gather_node` meets its contract: a node of the machine gets the next place. Assumes nothing.
 use Rattle.refreshing.proofs.Gathering.{not_owned, is_owned, gathered_skip, gathered_more}
-use borrow.Author.Rules.{rules}
 use Rattle.refreshing.proofs.gather_node.Goals as goal
 
 pub returns-then-owner-m : goal.returns-then-owner-m

@@ -2,7 +2,6 @@
 use native.Mathlib.Omega.{arith}
 use Rattle.sheet.proofs.Exits.{exits_none, exits_some}
 use Rattle.refreshing.proofs.Exits.{leave_never, leave_costs}
-use borrow.Author.Rules.{rules}
 use Rattle.refreshing.proofs.leave.Goals as goal
 
 pub returns-in_default : goal.returns-in_default

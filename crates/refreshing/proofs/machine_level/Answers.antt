@@ -1,10 +1,7 @@
 -- `refreshing::machine_level` meets its contract: the machines passed and the level of the last of them make up the level. Assumes nothing.
 use Prim.Native.Nat.{◌-◌}
 use native.Mathlib.Omega.{arith}
-use borrow.Author.Rules.{rules}
-use Rattle.definitions.specs.Limits.{levels}
-use Rattle.definitions.specs.Book.{tree_of}
-use Rattle.refreshing.proofs.Levels.{Climbed, level_unused, climbed_first, climbed_range, climbed_top}
+use Rattle.refreshing.proofs.Levels.{level_unused, climbed_first, climbed_range, climbed_top}
 use Rattle.refreshing.proofs.Levels.{climbed_holder, climbed_below, climbed_up}
 use Rattle.refreshing.proofs.machine_level.Goals as goal
 

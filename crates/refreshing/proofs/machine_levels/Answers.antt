@@ -1,10 +1,8 @@
 -- `refreshing::machine_levels` meets its contract: the levels of the machines passed stand in the list. Assumes nothing.
 use mathlib.Core.Path.{refl}
-use Prim.Native.Nat.{◌-◌, ◌≤◌}
+use Prim.Native.Nat.{◌-◌}
 use native.Mathlib.Omega.{arith}
-use Rattle.definitions.specs.Limits.{machines}
 use Rattle.definitions.specs.Book.{tree_of}
-use Rattle.refreshing.specs.Refresh.{MachineLevels}
 use Rattle.refreshing.proofs.Levels.{levels_none, levels_more, levels_all}
 use Rattle.refreshing.proofs.machine_levels.Goals as goal
 

@@ -1,7 +1,6 @@
 -- `refreshing::name_word` meets its contract: the word for no name, or the node at the place. Assumes nothing.
 use mathlib.Core.Path.{refl}
 use Rattle.refreshing.proofs.Nodes.{name_blank, name_fits, name_there}
-use borrow.Author.Rules.{rules}
 use Rattle.refreshing.proofs.name_word.Goals as goal
 
 pub returns-then-v-eq-ABSENT : goal.returns-then-v-eq-ABSENT

@@ -1,12 +1,9 @@
 -- `refreshing::refresh` meets its contract: below level l nothing is stale; the measure is the level. Assumes nothing.
-use mathlib.Core.Path.{refl, sym, ◌∙◌}
 use Prim.Native.Nat.{◌≤◌}
-use native.Mathlib.Omega.{arith}
 use Rattle.definitions.specs.Limits.{levels}
 use Rattle.definitions.specs.Book.{tree_of}
 use Rattle.search.specs.Tables.{TableRoom}
 use Rattle.refreshing.specs.Refresh.{FilledBelow}
-use Rattle.refreshing.proofs.Order.{below_none, below_more, below_all}
 use Rattle.refreshing.proofs.refresh.Given as goal
 
 abbrev pub invariant-loop-l : goal.invariant-loop-l

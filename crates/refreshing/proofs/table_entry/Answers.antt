@@ -1,7 +1,6 @@
 -- `refreshing::table_entry` meets its contract: no move without a transition or an exit; else the target's place and the sum. Assumes
 -- nothing.
 use native.Mathlib.Omega.{arith}
-use borrow.Author.Rules.{rules}
 use Rattle.definitions.specs.Sheet.{rows_of}
 use Rattle.refreshing.proofs.Exits.{leave_none, leave_some}
 use Rattle.refreshing.proofs.Tabling.{placing_range, entry_blank, entry_never, entry_costs}

@@ -1,14 +1,11 @@
 -- `refreshing::tables` meets its contract: the entries passed have the moves of the nodes at their places. Assumes nothing.
-use mathlib.Core.Path.{sym, ◌∙◌}
 use Prim.Native.Nat.{◌*◌, ◌≤◌, ◌-◌}
-use native.Mathlib.Omega.{arith}
 use Rattle.definitions.specs.Limits.{commands}
 use Rattle.definitions.specs.Book.{tree_of}
 use Rattle.definitions.specs.Sheet.{rows_of}
 use Rattle.search.specs.Parts.{at}
-use Rattle.search.proofs.Tables.{EntriesTo, entries_none, entries_more, entries_all}
+use Rattle.search.proofs.Tables.{EntriesTo}
 use Rattle.refreshing.specs.Parts.{member_move}
-use Rattle.refreshing.proofs.Tabling.{gathered_placing}
 use Rattle.refreshing.proofs.tables.Given as goal
 
 abbrev pub invariant-loop-j : goal.invariant-loop-j

@@ -1,5 +1,4 @@
 -- `refreshing::way_cost` meets its contract: a node that is reached, has no transition and is left. Assumes nothing.
-use borrow.Author.Rules.{rules}
 use Rattle.definitions.specs.Sheet.{rows_of}
 use Rattle.refreshing.proofs.Exits.{near_there, way_unreached, way_taken, way_left}
 use Rattle.refreshing.proofs.way_cost.Goals as goal

@@ -1,6 +1,5 @@
 -- `refreshing::write_exit` meets its contract: the cheapest way out, in its two words. Assumes nothing.
 use Rattle.refreshing.proofs.Exits.{exit_fits, exit_written}
-use borrow.Author.Rules.{rules}
 use Rattle.refreshing.proofs.write_exit.Goals as goal
 
 pub cost_word-requires : goal.cost_word-requires

@@ -1,11 +1,8 @@
 -- `refreshing::write_exits` meets its contract: the exits for the commands passed are written. Assumes nothing.
-use mathlib.Core.Path.{sym, ◌∙◌}
 use Prim.Native.Nat.{◌-◌, ◌≤◌}
-use native.Mathlib.Omega.{arith}
 use Rattle.definitions.specs.Limits.{commands}
 use Rattle.definitions.specs.Book.{tree_of}
 use Rattle.refreshing.specs.Parts.{ExitsWritten}
-use Rattle.refreshing.proofs.Exits.{near_kept, exits_none, exits_more, exits_all}
 use Rattle.refreshing.proofs.write_exits.Given as goal
 
 abbrev pub invariant-loop-x : goal.invariant-loop-x

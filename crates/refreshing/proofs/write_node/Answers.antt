@@ -1,6 +1,5 @@
 -- `refreshing::write_node` meets its contract: the node's three words, one after the other. Assumes nothing.
 use Rattle.refreshing.proofs.Nodes.{node_written}
-use borrow.Author.Rules.{rules}
 use Rattle.refreshing.proofs.write_node.Goals as goal
 
 pub returns : goal.returns

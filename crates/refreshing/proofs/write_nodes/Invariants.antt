@@ -1,9 +1,6 @@
 -- `refreshing::write_nodes` meets its contract: the rows of the nodes at the places passed are written. Assumes nothing.
-use mathlib.Core.Path.{sym, ◌∙◌}
 use Prim.Native.Nat.{◌≤◌, ◌-◌}
-use native.Mathlib.Omega.{arith}
 use Rattle.refreshing.specs.Parts.{NodesWritten}
-use Rattle.refreshing.proofs.Nodes.{nodes_none, nodes_more, nodes_all}
 use Rattle.refreshing.proofs.write_nodes.Given as goal
 
 abbrev pub invariant-loop-i : goal.invariant-loop-i

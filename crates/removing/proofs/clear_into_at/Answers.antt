@@ -1,7 +1,6 @@
 -- `removing::clear_into_at` meets its contract: the upper half of a transition's word is its target. Assumes nothing.
 use Rattle.definitions.specs.Book.{transition_of}
 use Rattle.removing.proofs.Into.{into_stays, into_goes}
-use borrow.Author.Rules.{rules}
 use Rattle.removing.proofs.clear_into_at.Goals as goal
 
 pub returns-then-w-n : goal.returns-then-w-n

@@ -1,10 +1,8 @@
 -- `removing::clear_into_from` meets its contract: after each turn the transitions into n are gone below x. Assumes nothing.
-use mathlib.Core.Path.{sym, ◌∙◌}
 use Prim.Native.Nat.{◌-◌, ◌≤◌}
-use native.Mathlib.Omega.{arith}
 use Rattle.definitions.specs.Limits.{commands}
 use Rattle.book.specs.Fields.{Holds}
-use Rattle.removing.proofs.Into.{from_to, from_none, from_more, from_all}
+use Rattle.removing.proofs.Into.{from_to}
 use Rattle.removing.proofs.clear_into_from.Given as goal
 
 abbrev pub invariant-loop-x : goal.invariant-loop-x

@@ -1,7 +1,6 @@
 -- `removing::do_remove` meets its contract: marking first, then the list of the machines that go, then the nodes, and last those machines.
 -- Assumes nothing.
 use Rattle.removing.proofs.Done.{remove_taken, remove_done}
-use borrow.Author.Rules.{rules}
 use Rattle.removing.proofs.do_remove.Goals as goal
 
 pub touch-requires : goal.touch-requires

@@ -1,6 +1,5 @@
 -- `removing::goes_with` meets its contract: the list is read at the node's machine. Assumes nothing.
 use Rattle.removing.proofs.Pass.{goes_self, goes_unused, machine_range, goes_owned}
-use borrow.Author.Rules.{rules}
 use Rattle.removing.proofs.goes_with.Goals as goal
 
 pub returns-then-n-k : goal.returns-then-n-k

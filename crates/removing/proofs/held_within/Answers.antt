@@ -4,7 +4,6 @@ use Rattle.definitions.specs.Tree.{within}
 use Rattle.definitions.specs.Book.{tree_of}
 use Rattle.stepping.proofs.Inside.{flag_one}
 use Rattle.removing.proofs.Lists.{not_held, held_range, held_told}
-use borrow.Author.Rules.{rules}
 use Rattle.removing.proofs.held_within.Goals as goal
 
 pub returns-then-h-eq-ABSENT : goal.returns-then-h-eq-ABSENT

@@ -1,11 +1,9 @@
 -- `removing::machines_within` meets its contract: the list is right below m after each turn. Assumes nothing.
 use mathlib.Core.Path.{refl}
-use Prim.Native.Nat.{◌-◌, ◌≤◌}
+use Prim.Native.Nat.{◌-◌}
 use native.Mathlib.Omega.{arith}
-use Rattle.definitions.specs.Limits.{machines}
 use Rattle.definitions.specs.Book.{tree_of}
 use Rattle.definitions.specs.Edit.{held_within}
-use Rattle.removing.specs.Within.{Listed}
 use Rattle.removing.proofs.Lists.{listed_none, listed_more, listed_all}
 use Rattle.removing.proofs.machines_within.Goals as goal
 

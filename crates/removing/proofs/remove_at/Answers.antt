@@ -5,7 +5,6 @@ use Rattle.definitions.specs.Book.{tree_of}
 use Rattle.book.specs.Chosen.{chosen}
 use Rattle.removing.specs.Within.{goes_with}
 use Rattle.removing.proofs.Pass.{node_goes, node_stays, node_cleared}
-use borrow.Author.Rules.{rules}
 use Rattle.removing.proofs.remove_at.Goals as goal
 
 pub returns-then-goes_with-eq1 : goal.returns-then-goes_with-eq1

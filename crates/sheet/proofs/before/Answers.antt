@@ -1,6 +1,5 @@
 -- `sheet::before` meets its contract: the node before a node is the second word of its row. Assumes nothing.
 use Rattle.definitions.specs.Sheet.{node_row}
-use borrow.Author.Rules.{rules}
 use Rattle.sheet.proofs.before.Goals as goal
 
 pub returns : goal.returns

@@ -4,7 +4,6 @@ use Rattle.definitions.specs.Book.{number}
 use Rattle.definitions.specs.Sheet.{cost_of}
 use Rattle.sheet.specs.Fields.{with_before, with_by}
 use Rattle.sheet.proofs.Stores.{leaves_then}
-use borrow.Author.Rules.{rules}
 use Rattle.sheet.proofs.blank_node_row.Goals as goal
 
 pub returns : goal.returns

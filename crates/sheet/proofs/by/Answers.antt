@@ -1,6 +1,5 @@
 -- `sheet::by` meets its contract: the command before a node is the third word of its row. Assumes nothing.
 use Rattle.definitions.specs.Sheet.{node_row}
-use borrow.Author.Rules.{rules}
 use Rattle.sheet.proofs.by.Goals as goal
 
 pub returns : goal.returns

@@ -1,10 +1,9 @@
 -- `sheet::clear_marks` meets its contract: the marks of the machines passed are 0. Assumes nothing.
-use mathlib.Core.Path.{◌≡◌, sym, ◌∙◌, ap, subst}
+use mathlib.Core.Path.{sym, ◌∙◌, ap, subst}
 use mathlib.Core.List.{List}
-use Prim.Native.Nat.{ℕ, ◌-◌, ◌≤◌, ◌<◌}
+use Prim.Native.Nat.{ℕ, ◌-◌}
 use native.Mathlib.Omega.{arith}
 use lib.ListN.{length, length-set}
-use Rattle.definitions.specs.Limits.{machines, sheet_length}
 use Rattle.sheet.specs.Fields.{IsMark}
 use Rattle.sheet.proofs.Stores.{mark_put}
 use Rattle.sheet.proofs.clear_marks.Goals as goal

@@ -1,6 +1,5 @@
 -- `sheet::cost` meets its contract: a node's cost is the first word of its row. Assumes nothing.
 use Rattle.definitions.specs.Sheet.{node_row}
-use borrow.Author.Rules.{rules}
 use Rattle.sheet.proofs.cost.Goals as goal
 
 pub returns : goal.returns

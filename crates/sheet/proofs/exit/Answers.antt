@@ -1,7 +1,6 @@
 -- `sheet::exit` meets its contract: a machine's exit costs stand after its mark. Assumes nothing.
 use mathlib.Core.Path.{◌∙◌}
 use Rattle.sheet.proofs.Stores.{exit_word}
-use borrow.Author.Rules.{rules}
 use Rattle.sheet.proofs.exit.Goals as goal
 
 pub returns : goal.returns

@@ -1,7 +1,6 @@
 -- `sheet::last` meets its contract: a machine's last nodes stand after its exit costs. Assumes nothing.
 use mathlib.Core.Path.{◌∙◌}
 use Rattle.sheet.proofs.Stores.{last_word}
-use borrow.Author.Rules.{rules}
 use Rattle.sheet.proofs.last.Goals as goal
 
 pub returns : goal.returns

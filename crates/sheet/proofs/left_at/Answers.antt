@@ -1,6 +1,5 @@
 -- `sheet::left_at` meets its contract. Assumes nothing.
 use borrow.Author.Tests.{eq-eqb, ne_eqb}
-use borrow.Author.Rules.{rules}
 use Rattle.definitions.specs.Limits.{absent}
 use Rattle.sheet.proofs.left_at.Goals as goal
 

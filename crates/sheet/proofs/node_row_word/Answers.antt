@@ -2,7 +2,6 @@
 use mathlib.Core.Path.{sym}
 use Rattle.definitions.specs.Sheet.{node_row_word}
 use Rattle.definitions.proofs.Words.{rows_of_node}
-use borrow.Author.Rules.{rules}
 use Rattle.sheet.proofs.node_row_word.Goals as goal
 
 pub returns : goal.returns

@@ -1,8 +1,6 @@
 -- `sheet::own_exit` meets its contract: what the machine below says, by its words. Assumes nothing.
 use mathlib.Core.Path.{sym, ◌∙◌}
-use mathlib.Core.Logic.{⊎_elim}
 use native.Mathlib.Omega.{arith}
-use borrow.Author.Rules.{rules}
 use Rattle.sheet.proofs.Reading.{rows_of_read}
 use Rattle.sheet.proofs.Exits.{exits_plain, exits_never, exits_costs}
 use Rattle.sheet.proofs.own_exit.Goals.{then-b-eq-ABSENT, else-b-eq-ABSENT}

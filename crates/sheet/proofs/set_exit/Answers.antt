@@ -1,6 +1,5 @@
 -- `sheet::set_exit` meets its contract: a machine's exit costs stand after its mark. Assumes nothing.
 use Rattle.sheet.proofs.Stores.{exit_store}
-use borrow.Author.Rules.{rules}
 use Rattle.sheet.proofs.set_exit.Goals as goal
 
 pub returns : goal.returns

@@ -1,6 +1,5 @@
 -- `sheet::set_last` meets its contract: a machine's last nodes stand after its exit costs. Assumes nothing.
 use Rattle.sheet.proofs.Stores.{last_store}
-use borrow.Author.Rules.{rules}
 use Rattle.sheet.proofs.set_last.Goals as goal
 
 pub returns : goal.returns

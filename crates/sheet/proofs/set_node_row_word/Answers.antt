@@ -1,6 +1,5 @@
 -- `sheet::set_node_row_word` meets its contract: a store into a node's row. Assumes nothing.
 use Rattle.sheet.proofs.Stores.{node_store}
-use borrow.Author.Rules.{rules}
 use Rattle.sheet.proofs.set_node_row_word.Goals as goal
 
 pub returns : goal.returns

@@ -1,6 +1,5 @@
 -- `sheet::set_stale` meets its contract: the mark is the first word of a machine's row. Assumes nothing.
 use Rattle.sheet.proofs.Stores.{mark_store}
-use borrow.Author.Rules.{rules}
 use Rattle.sheet.proofs.set_stale.Goals as goal
 
 pub returns : goal.returns

@@ -1,15 +1,13 @@
 -- `stepping::climb` meets its contract: the climb from the state comes to the node in hand, having left machines at this cost, and each turn goes
 -- one level up. What was left costs at most 65,535 for each level. Assumes nothing.
-use mathlib.Core.Path.{◌≡◌, sym, ◌∙◌}
-use Prim.Native.Nat.{◌+◌, ◌*◌, ◌-◌, ◌≤◌}
+use mathlib.Core.Path.{◌≡◌, sym}
+use Prim.Native.Nat.{◌-◌}
 use native.Mathlib.Omega.{arith}
-use Rattle.definitions.specs.Limits.{costs, largest_step_cost}
-use Rattle.definitions.specs.Tree.{level}
 use Rattle.definitions.specs.Book.{tree_of}
 use Rattle.definitions.proofs.Simple.{level_small}
 use Rattle.stepping.proofs.Laws.{used_range, owner_told}
 use Rattle.stepping.proofs.Upward.{higher}
-use Rattle.stepping.proofs.Climbing.{ClimbedTo, climbed_first, climbed_found, climbed_ends, climbed_on}
+use Rattle.stepping.proofs.Climbing.{climbed_first, climbed_found, climbed_ends, climbed_on}
 use Rattle.stepping.proofs.climb.Goals as goal
 
 pub loop-cost-init : goal.loop-cost-init

@@ -1,5 +1,4 @@
 -- `stepping::is_state` meets its contract. Assumes nothing.
-use borrow.Author.Rules.{rules}
 use Rattle.stepping.proofs.States.{unused_state, used_state}
 use Rattle.stepping.proofs.is_state.Goals as goal
 

@@ -1,11 +1,8 @@
 -- `stepping::level` meets its contract: what is counted and the level of the node in hand make up one more than the level. Assumes nothing.
 use mathlib.Core.Path.{◌≡◌}
 use Prim.Native.Nat.{suc, ◌+◌}
-use native.Mathlib.Omega.{arith}
 use Rattle.definitions.specs.Tree.{UsedNode, level}
 use Rattle.definitions.specs.Book.{tree_of}
-use Rattle.definitions.proofs.Path.{level_bound}
-use Rattle.stepping.proofs.Laws.{used_range, owner_told, level_top, level_up}
 use Rattle.stepping.proofs.level.Given as goal
 
 abbrev pub invariant-loop-n : goal.invariant-loop-n

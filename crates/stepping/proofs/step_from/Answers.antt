@@ -1,7 +1,6 @@
 -- `stepping::step_from` meets its contract: what the climb finds is entered. Assumes nothing.
 use mathlib.Core.Path.{refl, sym, subst}
 use mathlib.Core.Logic.{inl, inr}
-use borrow.Author.Rules.{rules}
 use Rattle.definitions.specs.Book.{tree_of}
 use Rattle.definitions.proofs.Answers.{done_step}
 use Rattle.definitions.specs.Step.{climb}

@@ -1,11 +1,10 @@
 -- `stepping::within` meets its contract: to be within n is the same of the node in hand and of d, and each turn goes one level up.
 -- Assumes nothing.
-use mathlib.Core.Path.{◌≡◌, refl}
+use mathlib.Core.Path.{◌≡◌}
 use Prim.Native.Nat.{◌<◌}
 use Rattle.definitions.specs.Limits.{nodes}
 use Rattle.definitions.specs.Tree.{level, within}
 use Rattle.definitions.specs.Book.{tree_of}
-use Rattle.stepping.proofs.Inside.{met, unused_told, owner_told, top_told, Up, up_told}
 use Rattle.stepping.proofs.within.Given as goal
 
 abbrev pub invariant-loop-k : goal.invariant-loop-k

@@ -1,5 +1,4 @@
 -- `storing::put_byte` meets its contract: past the list's end a store changes nothing. Assumes nothing.
-use borrow.Author.Rules.{rules}
 use Rattle.storing.proofs.Laws.{stored_past}
 use Rattle.storing.proofs.put_byte.Goals as goal
 

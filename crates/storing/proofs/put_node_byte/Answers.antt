@@ -1,5 +1,4 @@
 -- `storing::put_node_byte` meets its contract: its bytes are stored one after the other. Assumes nothing.
-use borrow.Author.Rules.{rules}
 use Rattle.storing.proofs.Laws.{stored_then}
 use Rattle.storing.proofs.put_node_byte.Goals as goal
 

@@ -1,5 +1,4 @@
 -- `truesheet::above_stale` meets its contract: the machine above is the one that the holding node belongs to. Assumes nothing.
-use borrow.Author.Rules.{rules}
 use Rattle.definitions.specs.Sheet.{rows_of}
 use Rattle.truesheet.proofs.Machines.{above_none, above_node, above_machine, above_decides}
 use Rattle.truesheet.proofs.above_stale.Goals as goal

@@ -1,6 +1,5 @@
 -- `truesheet::adds_up` meets its contract: a cost and an own exit cost that are there, in 64 bits. Assumes nothing.
 use native.Mathlib.Omega.{arith}
-use borrow.Author.Rules.{rules}
 use Rattle.definitions.specs.Book.{tree_of}
 use Rattle.sheet.proofs.Reading.{rows_of_read}
 use Rattle.sheet.proofs.Exits.{exits_some}

@@ -1,5 +1,4 @@
 -- `truesheet::at_most` meets its contract: a word that is not blank says its cost. Assumes nothing.
-use borrow.Author.Rules.{rules}
 use Rattle.truesheet.proofs.Exits.{at_most_blank, at_most_decides}
 use Rattle.truesheet.proofs.at_most.Goals as goal
 

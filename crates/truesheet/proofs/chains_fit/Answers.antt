@@ -1,13 +1,12 @@
 -- `truesheet::chains_fit` meets its contract. The loop's invariant: the names of nodes below `n` lead to a start, and what is counted is
 -- counted right. Assumes nothing.
 use mathlib.Core.Path.{refl}
-use Prim.Native.Nat.{ℕ, ◌-◌, ◌≤◌, ◌<◌}
+use Prim.Native.Nat.{◌-◌}
 use native.Mathlib.Omega.{arith}
 use lib.ListN.{get_or-replicate}
 use borrow.Author.Count.{below_none, below_more}
-use Rattle.definitions.specs.Limits.{nodes}
 use Rattle.definitions.specs.Sheet.{rows_of}
-use Rattle.truesheet.specs.Fits.{uncounted, ChainFits, Counted}
+use Rattle.truesheet.specs.Fits.{uncounted, ChainFits}
 use Rattle.truesheet.proofs.Chains.{counted_none}
 use Rattle.truesheet.proofs.chains_fit.Goals as goal
 

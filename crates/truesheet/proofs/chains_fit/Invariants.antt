@@ -1,14 +1,9 @@
 -- `truesheet::chains_fit` meets its contract. The loop's invariant: the names of nodes below `n` lead to a start, and what is counted is
 -- counted right. Assumes nothing.
-use mathlib.Core.Path.{refl}
 use Prim.Native.Nat.{ℕ, ◌-◌, ◌≤◌, ◌<◌}
-use native.Mathlib.Omega.{arith}
-use lib.ListN.{get_or-replicate}
-use borrow.Author.Count.{below_none, below_more}
 use Rattle.definitions.specs.Limits.{nodes}
 use Rattle.definitions.specs.Sheet.{rows_of}
-use Rattle.truesheet.specs.Fits.{uncounted, ChainFits, Counted}
-use Rattle.truesheet.proofs.Chains.{counted_none}
+use Rattle.truesheet.specs.Fits.{ChainFits, Counted}
 use Rattle.truesheet.proofs.chains_fit.Given as goal
 
 abbrev pub invariant-loop-n : goal.invariant-loop-n

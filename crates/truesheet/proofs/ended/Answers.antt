@@ -1,5 +1,4 @@
 -- `truesheet::ended` meets its contract: each test settles one thing that is asked of a last node. Assumes nothing.
-use borrow.Author.Rules.{rules}
 use Rattle.definitions.specs.Sheet.{rows_of}
 use Rattle.truesheet.proofs.Machines.{ended_far, ended_other, ended_moves, ended_decides}
 use Rattle.truesheet.proofs.ended.Goals as goal

@@ -1,5 +1,4 @@
 -- `truesheet::exit_blank` meets its contract: both words say nothing. Assumes nothing.
-use borrow.Author.Rules.{rules}
 use Rattle.sheet.proofs.Reading.{rows_of_read}
 use Rattle.truesheet.proofs.Machines.{exit_there, exit_blank}
 use Rattle.truesheet.proofs.exit_blank.Goals as goal

@@ -1,5 +1,4 @@
 -- `truesheet::exit_fits` meets its contract: no exit and no last node, or an exit that has one. Assumes nothing.
-use borrow.Author.Rules.{rules}
 use Rattle.definitions.specs.Book.{tree_of}
 use Rattle.sheet.proofs.Reading.{rows_of_read}
 use Rattle.truesheet.proofs.Machines.{exit_none, exit_some}

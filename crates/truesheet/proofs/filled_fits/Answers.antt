@@ -1,5 +1,4 @@
 -- `truesheet::filled_fits` meets its contract: a start node, a node that is not reached, or one that has a name. Assumes nothing.
-use borrow.Author.Rules.{rules}
 use Rattle.definitions.specs.Book.{tree_of}
 use Rattle.book.proofs.Decide.{passed, refused}
 use Rattle.sheet.proofs.Reading.{rows_of_read}

@@ -1,14 +1,13 @@
 -- `truesheet::follow` meets its contract. The loop's invariant: `v` is `steps` steps on from `n`. The measure is the steps that are left.
 -- Assumes nothing.
 use mathlib.Core.Path.{◌∙◌}
-use Prim.Native.Nat.{◌-◌, ◌≤◌, ◌<◌}
+use Prim.Native.Nat.{◌-◌}
 use native.Mathlib.Omega.{arith}
-use Rattle.definitions.specs.Limits.{nodes, longest_chain}
 use Rattle.definitions.specs.Sheet.{rows_of}
 use Rattle.definitions.proofs.Words.{present_word}
 use Rattle.book.proofs.Said.{unsaid}
 use Rattle.sheet.proofs.Reading.{rows_of_read}
-use Rattle.truesheet.proofs.Chains.{Ahead, ahead_none, ahead_more, follows_counted, follows_here, follows_far}
+use Rattle.truesheet.proofs.Chains.{ahead_none, ahead_more, follows_counted, follows_here, follows_far}
 use Rattle.truesheet.proofs.follow.Goals as goal
 
 pub loop-n-init : goal.loop-n-init

@@ -1,13 +1,8 @@
 -- `truesheet::machine_blank` meets its contract. The loop's invariant: nothing stands in the row for commands below `x`. Assumes nothing.
 use Prim.Native.Nat.{ℕ, ◌-◌, ◌≤◌, ◌<◌}
-use native.Mathlib.Omega.{arith}
-use borrow.Author.Count.{below_none, below_more}
-use borrow.Author.Rules.{rules}
 use Rattle.definitions.specs.Limits.{commands}
 use Rattle.definitions.specs.Sheet.{rows_of}
-use Rattle.book.proofs.Decide.{passed, refused}
 use Rattle.truesheet.specs.Fits.{BlankExit}
-use Rattle.truesheet.proofs.Machines.{machine_blank, blank_exits}
 use Rattle.truesheet.proofs.machine_blank.Given as goal
 
 abbrev pub invariant-loop-x : goal.invariant-loop-x

@@ -1,7 +1,6 @@
 -- `truesheet::machine_fits` meets its contract: by its mark and by whether it is in use. Assumes nothing.
 use mathlib.Core.Path.{◌≡◌}
 use native.Mathlib.Omega.{arith}
-use borrow.Author.Rules.{rules}
 use Rattle.book.proofs.Decide.{passed, refused}
 use Rattle.truesheet.proofs.Machines.{mark_other, machine_unused, machine_filled, stale_unused, stale_alone, machine_stale}
 use Rattle.std.proofs.lemmas.Bool.{not_from_false, not_from_true}

@@ -1,11 +1,7 @@
 -- `truesheet::machines_fit` meets its contract. The loop's invariant: the machines below `m` fit. Assumes nothing.
 use Prim.Native.Nat.{ℕ, ◌-◌, ◌≤◌, ◌<◌}
-use native.Mathlib.Omega.{arith}
-use borrow.Author.Count.{below_none, below_more}
-use borrow.Author.Rules.{rules}
 use Rattle.definitions.specs.Limits.{machines}
 use Rattle.definitions.specs.Book.{tree_of}
-use Rattle.book.proofs.Decide.{passed, refused}
 use Rattle.truesheet.specs.Fits.{MachineRowFits}
 use Rattle.truesheet.proofs.machines_fit.Given as goal
 

@@ -1,5 +1,4 @@
 -- `truesheet::named` meets its contract: each test settles one thing that is asked of a name. Assumes nothing.
-use borrow.Author.Rules.{rules}
 use Rattle.definitions.specs.Sheet.{rows_of}
 use Rattle.truesheet.proofs.Nodes.{named_far, named_command, named_other, named_stays, named_elsewhere, named_decides}
 use Rattle.truesheet.proofs.named.Goals as goal

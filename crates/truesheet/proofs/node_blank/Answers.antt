@@ -1,5 +1,4 @@
 -- `truesheet::node_blank` meets its contract: all three words say nothing. Assumes nothing.
-use borrow.Author.Rules.{rules}
 use Rattle.sheet.proofs.Reading.{rows_of_read}
 use Rattle.truesheet.proofs.Nodes.{blank_reached, blank_before, blank_decides}
 use Rattle.truesheet.proofs.node_blank.Goals as goal

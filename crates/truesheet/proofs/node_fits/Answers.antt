@@ -1,5 +1,4 @@
 -- `truesheet::node_fits` meets its contract: not in use, of a stale machine, or of another. Assumes nothing.
-use borrow.Author.Rules.{rules}
 use Rattle.definitions.specs.Sheet.{rows_of}
 use Rattle.truesheet.proofs.Nodes.{node_unused, owner_machine, node_stale, node_filled}
 use Rattle.truesheet.proofs.node_fits.Goals as goal

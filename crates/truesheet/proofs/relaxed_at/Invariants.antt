@@ -1,12 +1,8 @@
 -- `truesheet::relaxed_at` meets its contract. The loop's invariant: the node is relaxed by commands below `x`. Assumes nothing.
 use Prim.Native.Nat.{ℕ, ◌-◌, ◌≤◌, ◌<◌}
-use native.Mathlib.Omega.{arith}
-use borrow.Author.Count.{below_none, below_more}
-use borrow.Author.Rules.{rules}
 use Rattle.definitions.specs.Limits.{commands}
 use Rattle.definitions.specs.Book.{tree_of}
 use Rattle.definitions.specs.Sheet.{rows_of}
-use Rattle.book.proofs.Decide.{passed, refused}
 use Rattle.truesheet.specs.Fits.{RelaxedBy}
 use Rattle.truesheet.proofs.relaxed_at.Given as goal
 

@@ -1,6 +1,5 @@
 -- `truesheet::relaxed_by` meets its contract: the word of the transition that counts is BLANK or the node's own. Assumes nothing.
 use mathlib.Core.Path.{sym, ◌∙◌}
-use borrow.Author.Rules.{rules}
 use Rattle.book.proofs.Counts.{shut_word, open_word}
 use Rattle.truesheet.proofs.relaxed_by.Goals as goal
 

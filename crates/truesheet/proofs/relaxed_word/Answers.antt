@@ -1,8 +1,6 @@
 -- `truesheet::relaxed_word` meets its contract: a transition or none, then the own exit cost. Assumes nothing.
 use mathlib.Core.Path.{◌∙◌}
-use mathlib.Core.Logic.{⊎_elim}
 use native.Mathlib.Omega.{arith}
-use borrow.Author.Rules.{rules}
 use Rattle.sheet.proofs.Reading.{rows_of_read}
 use Rattle.sheet.proofs.Exits.{exits_some}
 use Rattle.truesheet.proofs.Nodes.{relaxed_never, relaxed_exit, relaxed_move}

@@ -1,11 +1,9 @@
 -- `truesheet::settle` meets its contract. The loop's invariant: `v` is `left` steps from its start, and what is counted is counted right.
 -- The measure is the steps that are left. Assumes nothing.
 use Prim.Native.Nat.{◌≤◌, ◌<◌}
-use native.Mathlib.Omega.{arith}
 use Rattle.definitions.specs.Limits.{nodes, longest_chain}
 use Rattle.definitions.specs.Sheet.{rows_of}
 use Rattle.truesheet.specs.Fits.{NamesLead, Counted}
-use Rattle.truesheet.proofs.Chains.{steps_down, counted_more}
 use Rattle.truesheet.proofs.settle.Given as goal
 
 abbrev pub invariant-loop-counts : goal.invariant-loop-counts

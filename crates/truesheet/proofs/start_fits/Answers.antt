@@ -1,5 +1,4 @@
 -- `truesheet::start_fits` meets its contract: cost 0, and both names say nothing. Assumes nothing.
-use borrow.Author.Rules.{rules}
 use Rattle.sheet.proofs.Reading.{rows_of_read}
 use Rattle.truesheet.proofs.Nodes.{start_reached, start_before, start_decides}
 use Rattle.truesheet.proofs.start_fits.Goals as goal

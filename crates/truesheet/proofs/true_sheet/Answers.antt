@@ -3,7 +3,6 @@
 use mathlib.Core.Path.{◌≡◌}
 use native.Mathlib.Omega.{arith}
 use lib.ListN.{length}
-use borrow.Author.Rules.{rules}
 use Rattle.definitions.specs.Limits.{sheet_length}
 use Rattle.book.proofs.Decide.{passed, refused, decides_same}
 use Rattle.sheet.proofs.Reading.{rows_of_read}

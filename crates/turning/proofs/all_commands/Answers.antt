@@ -1,11 +1,8 @@
 -- `turning::all_commands` meets its contract. The loop's invariant: the words of commands under x are written. Assumes nothing.
-use mathlib.Core.Path.{◌≡◌, sym, ◌∙◌}
-use Prim.Native.Nat.{◌*◌, ◌-◌, ◌≤◌}
+use mathlib.Core.Path.{sym, ◌∙◌}
+use Prim.Native.Nat.{◌-◌}
 use native.Mathlib.Omega.{arith}
-use Rattle.definitions.specs.Limits.{nodes, commands}
-use Rattle.definitions.specs.ByCommand.{by_command}
 use Rattle.definitions.proofs.Turned.{command_length}
-use Rattle.turning.specs.Fronts.{Front}
 use Rattle.turning.proofs.Laws.{front_none, front_at}
 use Rattle.turning.proofs.all_commands.Goals as goal
 

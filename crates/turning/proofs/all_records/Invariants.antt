@@ -1,12 +1,9 @@
 -- `turning::all_records` meets its contract. The loop's invariant: the records of nodes under n are written. Assumes nothing.
-use mathlib.Core.Path.{◌≡◌, sym, ◌∙◌}
 use Prim.Native.Nat.{◌+◌, ◌*◌, ◌-◌, ◌≤◌}
-use native.Mathlib.Omega.{arith}
 use Rattle.definitions.specs.Limits.{nodes}
 use Rattle.definitions.specs.Book.{node_fields, node_base}
 use Rattle.definitions.specs.ByCommand.{by_node}
 use Rattle.turning.specs.Fronts.{Front}
-use Rattle.turning.proofs.Laws.{front_at}
 use Rattle.turning.proofs.all_records.Given as goal
 
 abbrev pub invariant-loop-n : goal.invariant-loop-n

@@ -2,7 +2,6 @@
 use mathlib.Core.Path.{refl}
 use mathlib.Core.Logic.{inl, inr}
 use native.Mathlib.Omega.{arith}
-use borrow.Author.Rules.{rules}
 use Rattle.turning.proofs.by_node.Goals as goal
 
 pub returns-then-from-ne-BOOK : goal.returns-then-from-ne-BOOK

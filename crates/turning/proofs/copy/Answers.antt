@@ -1,10 +1,8 @@
 -- `turning::copy` meets its contract. The loop's invariant: so many words more are those of any list that the source agrees with. Assumes nothing.
-use mathlib.Core.Path.{◌≡◌, refl, ◌∙◌}
-use mathlib.Core.List.{List}
-use Prim.Native.Nat.{ℕ, ◌+◌, ◌-◌, ◌≤◌, ◌<◌}
+use mathlib.Core.Path.{refl, ◌∙◌}
+use Prim.Native.Nat.{◌+◌, ◌-◌}
 use native.Mathlib.Omega.{arith}
 use lib.ListN.{length, get_or, length-set}
-use Rattle.turning.specs.Fronts.{Front}
 use Rattle.turning.proofs.Laws.{front_put, front_at}
 use Rattle.turning.proofs.copy.Goals as goal
 

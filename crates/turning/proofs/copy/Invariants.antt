@@ -1,11 +1,9 @@
 -- `turning::copy` meets its contract. The loop's invariant: so many words more are those of any list that the source agrees with. Assumes nothing.
-use mathlib.Core.Path.{◌≡◌, refl, ◌∙◌}
+use mathlib.Core.Path.{◌≡◌}
 use mathlib.Core.List.{List}
 use Prim.Native.Nat.{ℕ, ◌+◌, ◌-◌, ◌≤◌, ◌<◌}
-use native.Mathlib.Omega.{arith}
-use lib.ListN.{length, get_or, length-set}
+use lib.ListN.{length, get_or}
 use Rattle.turning.specs.Fronts.{Front}
-use Rattle.turning.proofs.Laws.{front_put, front_at}
 use Rattle.turning.proofs.copy.Given as goal
 
 abbrev pub invariant-loop-i : goal.invariant-loop-i

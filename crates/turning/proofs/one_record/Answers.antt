@@ -1,13 +1,10 @@
 -- `turning::one_record` meets its contract. The loop's invariant: the words of commands under x are written. Assumes nothing.
-use mathlib.Core.Path.{◌≡◌, sym, ◌∙◌}
-use Prim.Native.Nat.{◌+◌, ◌*◌, ◌-◌, ◌≤◌}
+use mathlib.Core.Path.{sym, ◌∙◌}
+use Prim.Native.Nat.{◌+◌, ◌*◌, ◌-◌}
 use native.Mathlib.Omega.{arith}
-use lib.ListN.{length, get_or, length-set}
-use Rattle.definitions.specs.Limits.{commands}
-use Rattle.definitions.specs.Book.{node_fields, node_base}
+use lib.ListN.{length}
 use Rattle.definitions.specs.ByCommand.{by_node}
 use Rattle.definitions.proofs.Turned.{node_length}
-use Rattle.turning.specs.Fronts.{Front}
 use Rattle.turning.proofs.Laws.{front_at, link_words, record_more}
 use Rattle.turning.proofs.one_record.Goals as goal
 

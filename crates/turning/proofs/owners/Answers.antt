@@ -1,13 +1,10 @@
 -- `turning::owners` meets its contract. The loop's invariant: the words of nodes under n are written. Assumes nothing.
-use mathlib.Core.Path.{◌≡◌, sym, ◌∙◌}
-use Prim.Native.Nat.{◌+◌, ◌*◌, ◌-◌, ◌≤◌}
+use mathlib.Core.Path.{sym, ◌∙◌}
+use Prim.Native.Nat.{◌+◌, ◌*◌, ◌-◌}
 use native.Mathlib.Omega.{arith}
 use Rattle.definitions.proofs.Turned.{command_length}
 use Rattle.turning.proofs.Laws.{front_at, owner_words}
-use Rattle.definitions.specs.Limits.{nodes, commands}
-use Rattle.definitions.specs.Book.{node_base}
 use Rattle.definitions.specs.ByCommand.{by_command}
-use Rattle.turning.specs.Fronts.{Front}
 use Rattle.turning.proofs.owners.Goals as goal
 
 pub loop-n-init : goal.loop-n-init

@@ -1,10 +1,8 @@
 -- `turning::turn_by_command` meets its contract: the sections of a book by command, one after the other. Assumes nothing.
-use mathlib.Core.Path.{◌≡◌, sym, ◌∙◌}
-use native.Mathlib.Omega.{arith}
+use mathlib.Core.Path.{sym, ◌∙◌}
 use Rattle.definitions.specs.ByCommand.{by_command}
 use Rattle.definitions.proofs.Turned.{command_length, command_front, command_behind}
 use Rattle.turning.proofs.Laws.{front_all, at_zero}
-use borrow.Author.Rules.{rules}
 use Rattle.turning.proofs.turn_by_command.Goals as goal
 
 pub owners-requires : goal.owners-requires

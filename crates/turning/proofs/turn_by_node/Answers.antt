@@ -1,10 +1,8 @@
 -- `turning::turn_by_node` meets its contract: the sections of a book by node, one after the other. Assumes nothing.
-use mathlib.Core.Path.{◌≡◌, sym, ◌∙◌}
-use native.Mathlib.Omega.{arith}
+use mathlib.Core.Path.{sym, ◌∙◌}
 use Rattle.definitions.specs.ByCommand.{by_node}
 use Rattle.definitions.proofs.Turned.{node_length, node_front, node_behind}
 use Rattle.turning.proofs.Laws.{front_none, front_all, at_zero}
-use borrow.Author.Rules.{rules}
 use Rattle.turning.proofs.turn_by_node.Goals as goal
 
 pub all_records-requires : goal.all_records-requires

@@ -1,10 +1,6 @@
 -- `walking::all_meet` meets its contract: where those from `i` on have what is asked, all have it. Assumes nothing.
-use mathlib.Core.Path.{◌≡◌}
-use Prim.Native.Nat.{◌-◌, ◌≤◌}
+use Prim.Native.Nat.{◌-◌}
 use native.Mathlib.Omega.{arith}
-use lib.ListN.{length, drop}
-use borrow.Author.Rules.{rules}
-use Rattle.definitions.specs.Basics.{All}
 use Rattle.definitions.specs.Book.{tree_of}
 use Rattle.book.proofs.Decide.{passed, refused}
 use Rattle.walking.specs.Meaning.{Meets}

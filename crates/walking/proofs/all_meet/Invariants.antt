@@ -1,14 +1,9 @@
 -- `walking::all_meet` meets its contract: where those from `i` on have what is asked, all have it. Assumes nothing.
-use mathlib.Core.Path.{◌≡◌}
 use Prim.Native.Nat.{◌-◌, ◌≤◌}
-use native.Mathlib.Omega.{arith}
 use lib.ListN.{length, drop}
-use borrow.Author.Rules.{rules}
 use Rattle.definitions.specs.Basics.{All}
 use Rattle.definitions.specs.Book.{tree_of}
-use Rattle.book.proofs.Decide.{passed, refused}
 use Rattle.walking.specs.Meaning.{Meets}
-use Rattle.walking.proofs.Laws.{all_at, all_on, all_end}
 use Rattle.walking.proofs.all_meet.Given as goal
 
 abbrev pub invariant-loop-i : goal.invariant-loop-i

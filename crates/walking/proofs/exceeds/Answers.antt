@@ -1,5 +1,4 @@
 -- `walking::exceeds` meets its contract: each of its tests settles it or leaves the rest. Assumes nothing.
-use borrow.Author.Rules.{rules}
 use Rattle.definitions.specs.Tree.{within}
 use Rattle.definitions.specs.Book.{tree_of}
 use Rattle.walking.proofs.Laws.{not_full, inside_already, inside_now}

@@ -1,5 +1,4 @@
 -- `walking::meets` meets its contract, by what is asked. Assumes nothing.
-use borrow.Author.Rules.{rules}
 use Rattle.walking.proofs.Laws.{in_range, used_by, used_out, plain_by, plain_out}
 use Rattle.walking.proofs.meets.Goals as goal
 

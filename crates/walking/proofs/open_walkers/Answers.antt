@@ -1,10 +1,7 @@
 -- `walking::open_walkers` meets its contract: the first refusal that is met is answered. Assumes nothing.
-use mathlib.Core.Path.{◌≡◌}
-use mathlib.Core.Option.{none}
 use Prim.Native.Nat.{◌≤◌, ◌<◌}
 use native.Mathlib.Omega.{arith}
 use lib.ListN.{length}
-use borrow.Author.Rules.{rules}
 use Rattle.definitions.specs.Basics.{All}
 use Rattle.definitions.specs.Limits.{nodes, most_walkers}
 use Rattle.definitions.specs.Tree.{UsedNode}

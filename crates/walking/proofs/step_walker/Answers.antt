@@ -1,6 +1,5 @@
 -- `walking::step_walker` meets its contract, by what Step says of the walker's state. Assumes nothing.
 use mathlib.Core.Path.{◌≡◌, sym, ◌∙◌, subst}
-use borrow.Author.Rules.{rules}
 use Rattle.definitions.specs.Book.{tree_of}
 use Rattle.definitions.specs.Calls.{StepSays}
 use Rattle.stepping.specs.Meaning.{answer_of}

@@ -1,12 +1,10 @@
 -- `walking::walk` meets its contract: the first refusal that is met is answered, and else the walker's own command. Assumes nothing.
-use mathlib.Core.Path.{◌≡◌, ap, sym, ◌∙◌, subst}
-use mathlib.Core.Bool.{Bool}
+use mathlib.Core.Path.{subst}
 use Prim.Native.Nat.{ℕ}
 use lib.Dec.{leb}
 use lib.ListN.{get_or}
-use borrow.Author.Rules.{rules}
 use Rattle.definitions.specs.Book.{tree_of}
-use Rattle.definitions.specs.Walk.{inside, OpenWalkersSay}
+use Rattle.definitions.specs.Walk.{OpenWalkersSay}
 use Rattle.stepping.specs.Meaning.{answer_of}
 use Rattle.walking.specs.Meaning.{OneWalkerSays}
 use Rattle.walking.proofs.Says.{judged, formed, few, ranged, no_walker, stands, no_command, goes}

@@ -2,7 +2,6 @@
 use Rattle.book.proofs.Said.{unsaid_all}
 use Rattle.wellformed.proofs.Reading.{tree_of_read}
 use Rattle.wellformed.proofs.Deciding.{below_decides}
-use borrow.Author.Rules.{rules}
 use Rattle.wellformed.proofs.below_fits.Goals as goal
 
 pub returns-then-b-eq-ABSENT : goal.returns-then-b-eq-ABSENT

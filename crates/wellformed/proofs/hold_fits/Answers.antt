@@ -3,7 +3,6 @@ use mathlib.Core.Logic.{inl}
 use mathlib.Core.Path.{sym, ◌∙◌}
 use Rattle.wellformed.proofs.Reading.{tree_of_read}
 use Rattle.wellformed.proofs.Deciding.{hold_other, hold_unused, hold_decides}
-use borrow.Author.Rules.{rules}
 use Rattle.wellformed.proofs.hold_fits.Goals as goal
 
 pub returns-then-h-eq0 : goal.returns-then-h-eq0

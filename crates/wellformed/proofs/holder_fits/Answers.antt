@@ -2,7 +2,6 @@
 use Rattle.book.proofs.Said.{unsaid_all}
 use Rattle.wellformed.proofs.Reading.{tree_of_read}
 use Rattle.wellformed.proofs.Deciding.{holder_other, holder_unused, holder_decides}
-use borrow.Author.Rules.{rules}
 use Rattle.wellformed.proofs.holder_fits.Goals as goal
 
 pub returns-then-h-eq-ABSENT : goal.returns-then-h-eq-ABSENT

@@ -3,7 +3,6 @@ use mathlib.Core.Logic.{inl}
 use mathlib.Core.Path.{sym, ◌∙◌}
 use Rattle.wellformed.proofs.Reading.{tree_of_read}
 use Rattle.wellformed.proofs.Deciding.{leave_large, leave_unused, leave_decides}
-use borrow.Author.Rules.{rules}
 use Rattle.wellformed.proofs.leave_fits.Goals as goal
 
 pub returns-then-c-eq0 : goal.returns-then-c-eq0

@@ -1,6 +1,5 @@
 -- `wellformed::node_fits` meets its contract: what its four callees decide, together. Assumes nothing.
 use Rattle.book.proofs.Decide.{passed, refused, decides_same}
-use borrow.Author.Rules.{rules}
 use Rattle.std.proofs.lemmas.Bool.{not_from_false, not_from_true}
 use Rattle.wellformed.proofs.node_fits.Goals as goal
 

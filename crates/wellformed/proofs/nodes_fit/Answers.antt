@@ -1,9 +1,7 @@
 -- `wellformed::nodes_fit` meets its contract. The loop's invariant: the nodes below `n` fit. Assumes nothing.
-use Prim.Native.Nat.{ℕ, ◌-◌, ◌≤◌, ◌<◌}
+use Prim.Native.Nat.{◌-◌}
 use native.Mathlib.Omega.{arith}
 use borrow.Author.Count.{below_none, below_more}
-use borrow.Author.Rules.{rules}
-use Rattle.definitions.specs.Limits.{nodes}
 use Rattle.definitions.specs.Book.{tree_of}
 use Rattle.wellformed.specs.Fits.{NodeFits}
 use Rattle.book.proofs.Decide.{passed, refused}

@@ -2,7 +2,6 @@
 use Rattle.definitions.specs.Book.{tree_of}
 use Rattle.book.proofs.Said.{outside}
 use Rattle.wellformed.proofs.Reading.{tree_of_read}
-use borrow.Author.Rules.{rules}
 use Rattle.wellformed.proofs.owner_of.Goals as goal
 
 pub returns-else-n-lt-NODES : goal.returns-else-n-lt-NODES

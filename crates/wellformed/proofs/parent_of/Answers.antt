@@ -1,6 +1,5 @@
 -- `wellformed::parent_of` meets its contract: the machine above is the owner of the holder. Assumes nothing.
 use Rattle.wellformed.proofs.Reading.{tree_of_read, parent_word}
-use borrow.Author.Rules.{rules}
 use Rattle.wellformed.proofs.parent_of.Goals as goal
 
 pub returns : goal.returns

@@ -1,7 +1,6 @@
 -- `wellformed::root_fits` meets its contract: the two words that it looks at are the root's start and holder. Assumes nothing.
 use Rattle.wellformed.proofs.Reading.{tree_of_read}
 use Rattle.wellformed.proofs.Deciding.{root_unused, root_decides}
-use borrow.Author.Rules.{rules}
 use Rattle.wellformed.proofs.root_fits.Goals as goal
 
 pub returns-then-start_of-eq-ABSENT : goal.returns-then-start_of-eq-ABSENT

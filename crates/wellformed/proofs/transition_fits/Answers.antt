@@ -1,8 +1,6 @@
 -- `wellformed::transition_fits` meets its contract: the upper half of the word is the target. Assumes nothing.
-use mathlib.Core.Logic.{⊎_elim}
 use Rattle.wellformed.proofs.Reading.{tree_of_read}
 use Rattle.wellformed.proofs.Deciding.{transition_unused, transition_blank, transition_decides}
-use borrow.Author.Rules.{rules}
 use Rattle.wellformed.proofs.transition_fits.Goals.{then-w, else-w}
 use Rattle.wellformed.proofs.transition_fits.Goals as goal
 

@@ -1,9 +1,7 @@
 -- `wellformed::transitions_fit` meets its contract. The loop's invariant: the transitions for commands below `x` fit. Assumes nothing.
-use Prim.Native.Nat.{ℕ, ◌-◌, ◌≤◌, ◌<◌}
+use Prim.Native.Nat.{◌-◌}
 use native.Mathlib.Omega.{arith}
 use borrow.Author.Count.{below_none, below_more}
-use borrow.Author.Rules.{rules}
-use Rattle.definitions.specs.Limits.{commands}
 use Rattle.definitions.specs.Book.{tree_of}
 use Rattle.wellformed.specs.Fits.{TransitionFits}
 use Rattle.book.proofs.Decide.{passed, refused}

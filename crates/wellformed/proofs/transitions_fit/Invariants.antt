@@ -1,12 +1,8 @@
 -- `wellformed::transitions_fit` meets its contract. The loop's invariant: the transitions for commands below `x` fit. Assumes nothing.
 use Prim.Native.Nat.{ℕ, ◌-◌, ◌≤◌, ◌<◌}
-use native.Mathlib.Omega.{arith}
-use borrow.Author.Count.{below_none, below_more}
-use borrow.Author.Rules.{rules}
 use Rattle.definitions.specs.Limits.{commands}
 use Rattle.definitions.specs.Book.{tree_of}
 use Rattle.wellformed.specs.Fits.{TransitionFits}
-use Rattle.book.proofs.Decide.{passed, refused}
 use Rattle.wellformed.proofs.transitions_fit.Given as goal
 
 abbrev pub invariant-loop-x : goal.invariant-loop-x

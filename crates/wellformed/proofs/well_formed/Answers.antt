@@ -7,7 +7,6 @@ use Rattle.definitions.specs.Limits.{book_length}
 use Rattle.book.proofs.Decide.{passed, refused, decides_same}
 use Rattle.wellformed.proofs.Fits.{sound_fits}
 use Rattle.wellformed.proofs.Reading.{tree_of_read}
-use borrow.Author.Rules.{rules}
 use Rattle.std.proofs.lemmas.Bool.{not_from_false, not_from_true}
 use Rattle.wellformed.proofs.well_formed.Goals as goal
 

@@ -1,9 +1,8 @@
 -- `wholerun::load_all` meets its contract: what the streams that are left leave of what stands is what all of them leave. Assumes nothing.
 use Prim.Native.Nat.{◌-◌}
 use native.Mathlib.Omega.{arith}
-use lib.ListN.{length}
 use borrow.Author.Rules.{rules}
-use Rattle.wholerun.proofs.Streams.{StreamsLeft, left_all, left_range, left_on, left_none}
+use Rattle.wholerun.proofs.Streams.{left_all, left_range, left_on, left_none}
 use Rattle.wholerun.proofs.load_all.Goals as goal
 
 pub loop-i-init : goal.loop-i-init

@@ -1,5 +1,4 @@
 -- `wholerun::open` meets its contract: each of the three ways is that opening. Assumes nothing.
-use borrow.Author.Rules.{rules}
 use Rattle.wholerun.proofs.open.Goals as goal
 
 pub returns-in-Fresh : goal.returns-in-Fresh

@@ -6,7 +6,6 @@ use Rattle.wholerun.specs.Meaning.{opening_of}
 use Rattle.wholerun.proofs.Streams.{loads_both, all_bytes, streams_bytes}
 use Rattle.wholerun.proofs.Demand3.{prepared}
 use Rattle.wholerun.proofs.Says.{opens, opens_not}
-use borrow.Author.Rules.{rules}
 use Rattle.wholerun.proofs.prepare.Goals as goal
 
 pub returns-then-k-ne0 : goal.returns-then-k-ne0

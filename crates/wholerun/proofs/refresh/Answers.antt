@@ -1,6 +1,5 @@
 -- `wholerun::refresh` meets its contract: its stream is a refresh alone. Assumes nothing.
 use Rattle.definitions.specs.Demand.{Loads}
-use borrow.Author.Rules.{rules}
 use Rattle.wholerun.proofs.refresh.Goals as goal
 
 pub returns : goal.returns

@@ -1,9 +1,7 @@
 -- `wholerun::well_ended` meets its contract: all ends rise where those not yet looked at do, from the last one that was. Assumes nothing.
 use Prim.Native.Nat.{◌-◌}
-use native.Mathlib.Omega.{arith}
 use lib.ListN.{length}
-use borrow.Author.Rules.{rules}
-use Rattle.wholerun.proofs.Ends.{Looked, looked_none, looked_on, looked_falls, looked_all}
+use Rattle.wholerun.proofs.Ends.{Looked}
 use Rattle.wholerun.proofs.well_ended.Given as goal
 
 abbrev pub invariant-loop-i : goal.invariant-loop-i

@@ -10,7 +10,6 @@ use Rattle.wholerun.specs.Meaning.{opening_of}
 use Rattle.wholerun.proofs.Streams.{all_bytes, streams_bytes}
 use Rattle.wholerun.proofs.Demand3.{refreshed_bytes, answered}
 use Rattle.wholerun.proofs.Says.{says_length, says_malformed, says_unopened, says_answered}
-use borrow.Author.Rules.{rules}
 use Rattle.std.proofs.lemmas.Bool.{not_from_false, not_from_true}
 use Rattle.wholerun.proofs.whole_run.Goals.{Else-not-well_ended}
 use Rattle.wholerun.proofs.whole_run.Goals as goal

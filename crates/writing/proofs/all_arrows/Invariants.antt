@@ -1,12 +1,9 @@
 -- `writing::all_arrows` meets its contract: what is stored so far is what is written of the nodes passed. Assumes nothing.
-use Prim.Native.Nat.{◌-◌, ◌^◌}
-use native.Mathlib.Omega.{arith}
+use Prim.Native.Nat.{◌-◌}
 use Rattle.definitions.specs.Limits.{nodes}
 use Rattle.definitions.specs.Book.{tree_of}
 use Rattle.writing.specs.Meaning.{written_arrows}
-use Rattle.storing.proofs.Laws.{stored_length}
-use Rattle.storing.proofs.Pieces.{Pieces, pieces_none, pieces_room, pieces_more, pieces_all}
-use Rattle.writing.proofs.Laws.{arrows_short}
+use Rattle.storing.proofs.Pieces.{Pieces}
 use Rattle.writing.proofs.all_arrows.Given as goal
 
 abbrev pub invariant-loop-node : goal.invariant-loop-node

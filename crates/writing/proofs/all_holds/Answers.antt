@@ -5,7 +5,7 @@ use Rattle.definitions.specs.Limits.{nodes}
 use Rattle.definitions.specs.Book.{tree_of}
 use Rattle.definitions.specs.Write.{written_hold}
 use Rattle.storing.proofs.Laws.{stored_length}
-use Rattle.storing.proofs.Pieces.{Pieces, pieces_none, pieces_room, pieces_more, pieces_all}
+use Rattle.storing.proofs.Pieces.{pieces_none, pieces_room, pieces_more, pieces_all}
 use Rattle.writing.proofs.Laws.{hold_short}
 use Rattle.writing.proofs.all_holds.Goals as goal
 

@@ -5,7 +5,7 @@ use Rattle.definitions.specs.Limits.{machines}
 use Rattle.definitions.specs.Book.{tree_of}
 use Rattle.definitions.specs.Write.{written_leave}
 use Rattle.storing.proofs.Laws.{stored_length}
-use Rattle.storing.proofs.Pieces.{Pieces, pieces_none, pieces_room, pieces_more, pieces_all}
+use Rattle.storing.proofs.Pieces.{pieces_none, pieces_room, pieces_more, pieces_all}
 use Rattle.writing.proofs.Laws.{leave_short}
 use Rattle.writing.proofs.all_leaves.Goals as goal
 

@@ -1,12 +1,9 @@
 -- `writing::all_leaves` meets its contract: what is stored so far is what is written of the machines passed. Assumes nothing.
-use Prim.Native.Nat.{◌-◌, ◌^◌}
-use native.Mathlib.Omega.{arith}
+use Prim.Native.Nat.{◌-◌}
 use Rattle.definitions.specs.Limits.{machines}
 use Rattle.definitions.specs.Book.{tree_of}
 use Rattle.definitions.specs.Write.{written_leave}
-use Rattle.storing.proofs.Laws.{stored_length}
-use Rattle.storing.proofs.Pieces.{Pieces, pieces_none, pieces_room, pieces_more, pieces_all}
-use Rattle.writing.proofs.Laws.{leave_short}
+use Rattle.storing.proofs.Pieces.{Pieces}
 use Rattle.writing.proofs.all_leaves.Given as goal
 
 abbrev pub invariant-loop-m : goal.invariant-loop-m

@@ -1,12 +1,11 @@
 -- `writing::all_levels` meets its contract: what is stored so far is what is written of the levels passed. Assumes nothing.
 use Prim.Native.Nat.{◌+◌, ◌-◌, ◌^◌}
 use native.Mathlib.Omega.{arith}
-use borrow.Author.Rules.{rules}
 use Rattle.definitions.specs.Limits.{levels}
 use Rattle.definitions.specs.Book.{tree_of}
 use Rattle.writing.specs.Meaning.{written_level}
 use Rattle.storing.proofs.Laws.{stored_is, stored_then, stored_length}
-use Rattle.storing.proofs.Pieces.{Pieces, pieces_none, pieces_room, pieces_more, pieces_all}
+use Rattle.storing.proofs.Pieces.{pieces_none, pieces_room, pieces_more, pieces_all}
 use Rattle.writing.proofs.Laws.{adds_short, level_short, level_pieces}
 use Rattle.writing.proofs.all_levels.Goals as goal
 

@@ -1,5 +1,4 @@
 -- `writing::has_room` meets its contract: no stream is longer than the longest, and any other length is compared. Assumes nothing.
-use borrow.Author.Rules.{rules}
 use native.Mathlib.Omega.{arith}
 use Rattle.definitions.specs.Book.{tree_of}
 use Rattle.samebook.proofs.Bound.{write_bound}

@@ -1,5 +1,4 @@
 -- `writing::machine_leave` meets its contract: the machine's word is 0 and nothing is stored, or its bytes are. Assumes nothing.
-use borrow.Author.Rules.{rules}
 use native.Mathlib.Omega.{arith}
 use Rattle.definitions.specs.Book.{tree_of}
 use Rattle.storing.proofs.Laws.{stored_none, stored_is}

@@ -1,5 +1,4 @@
 -- `writing::node_add` meets its contract: a node in use, at the level, and not a start node is added. Assumes nothing.
-use borrow.Author.Rules.{rules}
 use mathlib.Core.Path.{sym, ◌∙◌}
 use native.Mathlib.Omega.{arith}
 use Rattle.definitions.specs.Book.{tree_of}

@@ -1,5 +1,4 @@
 -- `writing::node_arrow` meets its contract: a word that is not blank says target and cost. Assumes nothing.
-use borrow.Author.Rules.{rules}
 use Rattle.definitions.specs.Book.{tree_of}
 use Rattle.definitions.proofs.Words.{no_transition, some_transition}
 use Rattle.storing.proofs.Laws.{stored_none, stored_is}

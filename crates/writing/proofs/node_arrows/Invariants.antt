@@ -1,12 +1,9 @@
 -- `writing::node_arrows` meets its contract: what is stored so far is what is written of the commands passed. Assumes nothing.
-use Prim.Native.Nat.{◌-◌, ◌^◌}
-use native.Mathlib.Omega.{arith}
+use Prim.Native.Nat.{◌-◌}
 use Rattle.definitions.specs.Limits.{commands}
 use Rattle.definitions.specs.Book.{tree_of}
 use Rattle.definitions.specs.Write.{written_arrow}
-use Rattle.storing.proofs.Laws.{stored_length}
-use Rattle.storing.proofs.Pieces.{Pieces, pieces_none, pieces_room, pieces_more, pieces_all}
-use Rattle.writing.proofs.Laws.{arrow_short}
+use Rattle.storing.proofs.Pieces.{Pieces}
 use Rattle.writing.proofs.node_arrows.Given as goal
 
 abbrev pub invariant-loop-x : goal.invariant-loop-x

@@ -1,5 +1,4 @@
 -- `writing::node_hold` meets its contract: the node's word is 1, or nothing is stored. Assumes nothing.
-use borrow.Author.Rules.{rules}
 use Rattle.definitions.specs.Book.{tree_of}
 use Rattle.storing.proofs.Laws.{stored_none, stored_is}
 use Rattle.writing.proofs.Laws.{hold_none, hold_node}

@@ -1,5 +1,4 @@
 -- `writing::node_level` meets its contract: a node without an owner is not in use. Assumes nothing.
-use borrow.Author.Rules.{rules}
 use Rattle.definitions.specs.Book.{tree_of}
 use Rattle.definitions.proofs.Options.{none_some}
 use Rattle.definitions.proofs.Words.{present_word, no_owner}

@@ -1,11 +1,8 @@
 -- `writing::node_levels` meets its contract: the levels of the nodes passed stand in the list. Assumes nothing.
-use mathlib.Core.Path.{refl}
 use Prim.Native.Nat.{◌-◌, ◌≤◌}
-use native.Mathlib.Omega.{arith}
 use Rattle.definitions.specs.Limits.{nodes}
 use Rattle.definitions.specs.Book.{tree_of}
 use Rattle.writing.specs.Meaning.{Levels}
-use Rattle.writing.proofs.Laws.{levels_none, levels_more, levels_all}
 use Rattle.writing.proofs.node_levels.Given as goal
 
 abbrev pub invariant-loop-n : goal.invariant-loop-n

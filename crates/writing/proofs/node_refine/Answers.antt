@@ -1,5 +1,4 @@
 -- `writing::node_refine` meets its contract: a refined node at the level, with the machine below it and that machine's start node. Assumes nothing.
-use borrow.Author.Rules.{rules}
 use mathlib.Core.Path.{sym, ◌∙◌}
 use Rattle.definitions.specs.Book.{tree_of}
 use Rattle.definitions.proofs.Words.{present_word, below_range, start_range, no_below}

@@ -1,5 +1,4 @@
 -- `writing::put_refine` meets its contract: its bytes are stored one after the other. Assumes nothing.
-use borrow.Author.Rules.{rules}
 use Rattle.storing.proofs.Laws.{stored_then}
 use Rattle.writing.proofs.put_refine.Goals as goal
 

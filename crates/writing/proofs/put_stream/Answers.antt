@@ -1,5 +1,4 @@
 -- `writing::put_stream` meets its contract: begin, the levels, the transitions, the holds and the leaving costs, one after the other. Assumes nothing.
-use borrow.Author.Rules.{rules}
 use native.Mathlib.Omega.{arith}
 use Rattle.definitions.specs.Book.{tree_of}
 use Rattle.definitions.proofs.Words.{start_range}

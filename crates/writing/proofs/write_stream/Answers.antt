@@ -1,5 +1,4 @@
 -- `writing::write_stream` meets its contract: the stream has room at the front. Assumes nothing.
-use borrow.Author.Rules.{rules}
 use Rattle.storing.proofs.Laws.{stored_front}
 use Rattle.writing.proofs.write_stream.Goals as goal
 

@@ -7,7 +7,6 @@ use Rattle.choosing.specs.Meaning.{choice_of}
 use Rattle.choosing.specs.declared.Chosen.{Chosen}
 use Rattle.himm.specs.Exports.{count_of}
 use Rattle.himm.proofs.Laws.{stored_refused, choice_refused}
-use borrow.Author.Rules.{rules}
 use Rattle.himm.proofs.store.chosen.Goals as goal
 
 pub overflow_cast-used : goal.overflow_cast-used

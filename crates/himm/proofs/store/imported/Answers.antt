@@ -1,6 +1,5 @@
 -- `himm::store::imported` meets its contract: the import's answer, stored. Assumes nothing.
 use mathlib.Core.Path.{ap}
-use borrow.Author.Rules.{rules}
 use Rattle.importing.specs.Meaning.{answer_of}
 use Rattle.himm.proofs.Laws.{stored_refused}
 use Rattle.himm.proofs.store.imported.Goals as goal

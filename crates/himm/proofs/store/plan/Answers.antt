@@ -1,6 +1,5 @@
 -- `himm::store::plan` meets its contract: Plan's answer, stored. Assumes nothing.
 use mathlib.Core.Path.{ap}
-use borrow.Author.Rules.{rules}
 use Rattle.planning.specs.Meaning.{answer_of}
 use Rattle.himm.proofs.Laws.{stored_refused}
 use Rattle.himm.proofs.store.plan.Goals as goal

@@ -1,6 +1,5 @@
 -- `himm::store::rows` meets its contract: the generator's answer, stored. Assumes nothing.
 use mathlib.Core.Path.{ap}
-use borrow.Author.Rules.{rules}
 use Rattle.ladders.specs.Meaning.{answer_of}
 use Rattle.himm.proofs.Laws.{stored_refused}
 use Rattle.himm.proofs.store.rows.Goals as goal

@@ -1,6 +1,5 @@
 -- `himm::store::step` meets its contract: Step's answer, stored. Assumes nothing.
 use mathlib.Core.Path.{ap}
-use borrow.Author.Rules.{rules}
 use Rattle.stepping.specs.Meaning.{answer_of}
 use Rattle.himm.proofs.Laws.{stored_refused}
 use Rattle.himm.proofs.store.step.Goals as goal

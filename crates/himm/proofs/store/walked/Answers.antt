@@ -1,6 +1,5 @@
 -- `himm::store::walked` meets its contract: a walker's step, stored. Assumes nothing.
 use mathlib.Core.Path.{ap}
-use borrow.Author.Rules.{rules}
 use Rattle.stepping.specs.Meaning.{answer_of}
 use Rattle.himm.specs.Exports.{behind_state}
 use Rattle.himm.proofs.Laws.{stored_refused}

@@ -1,6 +1,5 @@
 -- `himm::store::written` meets its contract: Write's answer, stored. Assumes nothing.
 use mathlib.Core.Path.{ap}
-use borrow.Author.Rules.{rules}
 use Rattle.writing.specs.Meaning.{answer_of}
 use Rattle.himm.proofs.Laws.{stored_refused}
 use Rattle.himm.proofs.store.written.Goals as goal
