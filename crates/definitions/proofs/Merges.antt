@@ -2,7 +2,7 @@
 -- wrong order, a number that moves elsewhere, or a target that does not move along would leave another tree. Assumes nothing.
 use mathlib.Core.Path.{◌≡◌, refl}
 use mathlib.Core.Option.{none, some}
-use mathlib.Core.List.{List, ◌∷◌}
+use mathlib.Core.List.{[], List, ◌∷◌}
 use Prim.Native.Nat.{ℕ}
 use Rattle.definitions.specs.Basics.{any_below, count_below}
 use Rattle.definitions.specs.Tree.{Tree, above, path_f, path, level}

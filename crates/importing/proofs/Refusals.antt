@@ -1,5 +1,5 @@
 -- The import's refusals in their order, and what it gives where there is none. Assumes nothing.
-use Rattle.std.proofs.Common.{◌≡◌, ℕ, ◌*◌, ◌/◌, ◌<◌, ◌≤◌, Bool, true, false, leb, List, ◌∷◌, length, refl, ap, inl, inr, ⊎_elim, arith, leb-false, leb-true}
+use Rattle.std.proofs.Common.{[], ◌≡◌, ℕ, ◌*◌, ◌/◌, ◌<◌, ◌≤◌, Bool, true, false, leb, List, ◌∷◌, length, refl, ap, inl, inr, ⊎_elim, arith, leb-false, leb-true}
 use mathlib.Core.Option.{Option, none, some}
 use lib.Ieee.{Float}
 use lib.Ieee.Positive.{num, den, den_pos}

@@ -1,6 +1,6 @@
 -- Load's answer, refusal by refusal: what each way out of the call has to show. Assumes nothing.
 use mathlib.Core.Path.{◌≡◌, refl}
-use mathlib.Core.List.{List}
+use mathlib.Core.List.{[], List}
 use Prim.Native.Nat.{ℕ}
 use lib.ListN.{length}
 use Rattle.definitions.specs.Limits.{sheet_length}

@@ -2,7 +2,7 @@
 -- the second passes. And lists in a row of which no element stands twice. Assumes nothing.
 use mathlib.Core.Path.{◌≡◌, refl, sym, ◌∙◌, ap, fun_ext}
 use mathlib.Core.Option.{Option, none, some}
-use mathlib.Core.List.{List, ◌∷◌, ◌++◌, append_assoc}
+use mathlib.Core.List.{[], List, ◌∷◌, ◌++◌, append_assoc}
 use Prim.Native.Nat.{ℕ}
 use Rattle.definitions.specs.Basics.{option, All, Distinct}
 use Rattle.definitions.specs.Tree.{Tree}

@@ -1,7 +1,7 @@
 -- Demand 2, its last clause: the stream that Write gives for a book, loaded into any holding whose book is well formed and sheet true,
 -- leaves the same book, every machine in use marked and all blank. Assumes nothing.
 use mathlib.Core.Path.{◌≡◌, refl, sym, ap, ◌∙◌}
-use mathlib.Core.List.{List, ◌∷◌}
+use mathlib.Core.List.{[], List, ◌∷◌}
 use Prim.Native.Nat.{ℕ}
 use lib.ListN.{length, take}
 use Rattle.definitions.specs.Tree.{Tree}

@@ -1,7 +1,7 @@
 -- `copying::copy` meets its contract: what Load says of an empty stream, what Write says, and what Load says of the stream written, taken
 -- together. Assumes nothing.
 use mathlib.Core.Path.{subst}
-use mathlib.Core.List.{◌∷◌}
+use mathlib.Core.List.{[], ◌∷◌}
 use Prim.Native.Nat.{◌≤◌}
 use lib.ListN.{length}
 use Rattle.definitions.specs.Answer.{gives}

@@ -1,5 +1,5 @@
 -- `importing::import` meets its contract: each reading by its own arm; the refusals in their order, or the bytes that are stored. Assumes nothing.
-use Rattle.std.proofs.Common.{true, leb, ◌∷◌, length, sym, refl, subst}
+use Rattle.std.proofs.Common.{[], true, leb, ◌∷◌, length, sym, refl, subst}
 use mathlib.Core.Option.{none, some}
 use Rattle.definitions.specs.Answer.{gives, refuses}
 use Rattle.definitions.specs.Import.{took, waited, ImportSays}

@@ -1,6 +1,6 @@
 -- `ladders::put_row` meets its contract: its three words are stored one after the other. Assumes nothing.
 use mathlib.Core.Path.{ap₂}
-use mathlib.Core.List.{◌∷◌}
+use mathlib.Core.List.{[], ◌∷◌}
 use Prim.Native.Nat.{ℕ, ◌/◌}
 use Rattle.storing.proofs.Laws.{stored_is, stored_then}
 use Rattle.ladders.proofs.put_row.Goals as goal

@@ -1,4 +1,5 @@
 -- `readiness::judge_between` meets its contract: the refusals of book and sheet, and past them those of the two states. Assumes nothing.
+use mathlib.Core.List.{[]}
 use mathlib.Core.Path.{◌≡◌, refl}
 use Prim.Native.Nat.{ℕ}
 use Rattle.definitions.specs.Book.{tree_of}
