@@ -1,7 +1,6 @@
 -- `import_examples::show_bytes` is safe and ends: the end is the list's. Assumes nothing.
 use Prim.Native.Nat.{◌-◌}
 use lib.ListN.{length}
-use borrow.Author.Rules.{rules}
 use Rattle.import_examples.proofs.show_bytes.Given as goal
 
 abbrev pub invariant-loop-i : goal.invariant-loop-i

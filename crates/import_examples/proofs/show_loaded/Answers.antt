@@ -2,7 +2,6 @@
 use mathlib.Core.Path.{sym}
 use native.Mathlib.Omega.{arith}
 use lib.Seq.{length-take-le}
-use borrow.Author.Rules.{rules}
 use Rattle.import_examples.proofs.show_loaded.Goals as goal
 
 pub slice_bounds-load-end-3 : goal.slice_bounds-load-end-3

@@ -1,6 +1,5 @@
 -- `merge_examples::add_nodes` is safe and ends: `n` is at most 62. Assumes nothing.
 use Prim.Native.Nat.{◌-◌, ◌≤◌}
-use borrow.Author.Rules.{rules}
 use Rattle.merge_examples.proofs.add_nodes.Given as goal
 
 abbrev pub invariant-loop-n : goal.invariant-loop-n

@@ -1,6 +1,5 @@
 -- `merge_examples::lengths` is safe and ends: `i` is at most a book's length. Assumes nothing.
 use Prim.Native.Nat.{◌-◌, ◌≤◌}
-use borrow.Author.Rules.{rules}
 use Rattle.merge_examples.proofs.lengths.Given as goal
 
 abbrev pub invariant-loop-i : goal.invariant-loop-i

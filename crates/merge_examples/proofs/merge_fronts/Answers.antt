@@ -2,7 +2,6 @@
 use mathlib.Core.Path.{sym}
 use native.Mathlib.Omega.{arith}
 use lib.Seq.{length-take-le}
-use borrow.Author.Rules.{rules}
 use Rattle.merge_examples.proofs.merge_fronts.Goals as goal
 
 pub slice_bounds-merge-end : goal.slice_bounds-merge-end

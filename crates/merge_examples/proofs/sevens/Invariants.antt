@@ -1,7 +1,6 @@
 -- `merge_examples::sevens` is safe and ends: `i` is at most the length. Assumes nothing.
 use Prim.Native.Nat.{◌-◌, ◌≤◌}
 use lib.ListN.{length}
-use borrow.Author.Rules.{rules}
 use Rattle.merge_examples.proofs.sevens.Given as goal
 
 abbrev pub invariant-loop-i : goal.invariant-loop-i

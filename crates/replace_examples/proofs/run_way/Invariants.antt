@@ -1,6 +1,5 @@
 -- `replace_examples::run_way` is safe and ends. Assumes nothing.
 use Prim.Native.Nat.{◌-◌}
-use borrow.Author.Rules.{rules}
 use Rattle.replace_examples.proofs.run_way.Given as goal
 
 abbrev pub invariant-loop-i : goal.invariant-loop-i

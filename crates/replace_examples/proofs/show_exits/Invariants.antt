@@ -1,6 +1,5 @@
 -- `replace_examples::show_exits` is safe and ends. Assumes nothing.
 use Prim.Native.Nat.{◌-◌}
-use borrow.Author.Rules.{rules}
 use Rattle.replace_examples.proofs.show_exits.Given as goal
 
 abbrev pub invariant-loop-x : goal.invariant-loop-x

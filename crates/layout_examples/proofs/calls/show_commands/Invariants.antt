@@ -1,6 +1,5 @@
 -- `layout_examples::calls::show_commands` is safe and ends. Assumes nothing.
 use Prim.Native.Nat.{◌-◌}
-use borrow.Author.Rules.{rules}
 use Rattle.layout_examples.proofs.calls.show_commands.Given as goal
 
 abbrev pub invariant-loop-i : goal.invariant-loop-i

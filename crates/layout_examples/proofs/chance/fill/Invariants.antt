@@ -1,6 +1,5 @@
 -- `layout_examples::chance::fill` is safe and ends. Assumes nothing.
 use Prim.Native.Nat.{◌-◌}
-use borrow.Author.Rules.{rules}
 use Rattle.layout_examples.proofs.chance.fill.Given as goal
 
 abbrev pub invariant-loop-i : goal.invariant-loop-i

@@ -1,6 +1,5 @@
 -- `layout_examples::chance::number_words` is safe and ends. Assumes nothing.
 use Prim.Native.Nat.{◌-◌}
-use borrow.Author.Rules.{rules}
 use Rattle.layout_examples.proofs.chance.number_words.Given as goal
 
 abbrev pub invariant-loop-i : goal.invariant-loop-i

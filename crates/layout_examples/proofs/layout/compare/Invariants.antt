@@ -1,7 +1,6 @@
 -- `layout_examples::layout::compare` is safe and ends: the end is the first list's. Assumes nothing.
 use Prim.Native.Nat.{◌-◌}
 use lib.ListN.{length}
-use borrow.Author.Rules.{rules}
 use Rattle.layout_examples.proofs.layout.compare.Given as goal
 
 abbrev pub invariant-loop-i : goal.invariant-loop-i

@@ -2,7 +2,6 @@
 use mathlib.Core.Path.{sym}
 use native.Mathlib.Omega.{arith}
 use lib.Seq.{length-take-le}
-use borrow.Author.Rules.{rules}
 use Rattle.layout_examples.proofs.random.load_front.Goals as goal
 
 pub slice_bounds-load-end-6 : goal.slice_bounds-load-end-6

@@ -1,6 +1,5 @@
 -- `replace_examples::compare::compare_all` is safe and ends. Assumes nothing.
 use Prim.Native.Nat.{◌-◌}
-use borrow.Author.Rules.{rules}
 use Rattle.replace_examples.proofs.compare.compare_all.Given as goal
 
 abbrev pub invariant-loop-a : goal.invariant-loop-a

@@ -1,6 +1,5 @@
 -- `replace_examples::compare::compare_exits` is safe and ends. Assumes nothing.
 use Prim.Native.Nat.{◌-◌}
-use borrow.Author.Rules.{rules}
 use Rattle.replace_examples.proofs.compare.compare_exits.Given as goal
 
 abbrev pub invariant-loop-x : goal.invariant-loop-x

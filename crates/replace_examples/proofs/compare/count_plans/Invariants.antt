@@ -1,6 +1,5 @@
 -- `replace_examples::compare::count_plans` is safe and ends. Assumes nothing.
 use Prim.Native.Nat.{◌-◌}
-use borrow.Author.Rules.{rules}
 use Rattle.replace_examples.proofs.compare.count_plans.Given as goal
 
 abbrev pub invariant-loop-b : goal.invariant-loop-b

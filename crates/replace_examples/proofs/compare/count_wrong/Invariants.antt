@@ -1,6 +1,5 @@
 -- `replace_examples::compare::count_wrong` is safe and ends. Assumes nothing.
 use Prim.Native.Nat.{◌-◌}
-use borrow.Author.Rules.{rules}
 use Rattle.replace_examples.proofs.compare.count_wrong.Given as goal
 
 abbrev pub invariant-loop-b : goal.invariant-loop-b

@@ -1,6 +1,5 @@
 -- `replace_examples::compare::mark_all` is safe and ends. Assumes nothing.
 use Prim.Native.Nat.{◌-◌}
-use borrow.Author.Rules.{rules}
 use Rattle.replace_examples.proofs.compare.mark_all.Given as goal
 
 abbrev pub invariant-loop-i : goal.invariant-loop-i

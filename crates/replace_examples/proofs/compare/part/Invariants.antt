@@ -1,6 +1,5 @@
 -- `replace_examples::compare::part` is safe and ends. Assumes nothing.
 use Prim.Native.Nat.{◌-◌}
-use borrow.Author.Rules.{rules}
 use Rattle.replace_examples.proofs.compare.part.Given as goal
 
 abbrev pub invariant-loop-k : goal.invariant-loop-k

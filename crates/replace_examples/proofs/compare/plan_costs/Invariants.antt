@@ -1,6 +1,5 @@
 -- `replace_examples::compare::plan_costs` is safe and ends. Assumes nothing.
 use Prim.Native.Nat.{◌-◌}
-use borrow.Author.Rules.{rules}
 use Rattle.replace_examples.proofs.compare.plan_costs.Given as goal
 
 abbrev pub invariant-loop-b : goal.invariant-loop-b

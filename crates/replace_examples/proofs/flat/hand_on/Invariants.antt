@@ -1,6 +1,5 @@
 -- `replace_examples::flat::hand_on` is safe and ends. Assumes nothing.
 use Prim.Native.Nat.{◌-◌}
-use borrow.Author.Rules.{rules}
 use Rattle.replace_examples.proofs.flat.hand_on.Given as goal
 
 abbrev pub invariant-loop-i : goal.invariant-loop-i

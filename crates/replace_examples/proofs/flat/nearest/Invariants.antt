@@ -1,6 +1,5 @@
 -- `replace_examples::flat::nearest` is safe and ends. Assumes nothing.
 use Prim.Native.Nat.{◌-◌}
-use borrow.Author.Rules.{rules}
 use Rattle.replace_examples.proofs.flat.nearest.Given as goal
 
 abbrev pub invariant-loop-n : goal.invariant-loop-n

@@ -1,6 +1,5 @@
 -- `replace_examples::replacing::fill_commands` is safe and ends. Assumes nothing.
 use Prim.Native.Nat.{◌-◌}
-use borrow.Author.Rules.{rules}
 use Rattle.replace_examples.proofs.replacing.fill_commands.Given as goal
 
 abbrev pub invariant-loop-x : goal.invariant-loop-x

@@ -1,6 +1,5 @@
 -- `replace_examples::replacing::renumber` is safe and ends. Assumes nothing.
 use Prim.Native.Nat.{◌-◌}
-use borrow.Author.Rules.{rules}
 use Rattle.replace_examples.proofs.replacing.renumber.Given as goal
 
 abbrev pub invariant-loop-k : goal.invariant-loop-k

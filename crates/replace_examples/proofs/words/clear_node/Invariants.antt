@@ -1,6 +1,5 @@
 -- `replace_examples::words::clear_node` is safe and ends. Assumes nothing.
 use Prim.Native.Nat.{◌-◌}
-use borrow.Author.Rules.{rules}
 use Rattle.replace_examples.proofs.words.clear_node.Given as goal
 
 abbrev pub invariant-loop-k : goal.invariant-loop-k

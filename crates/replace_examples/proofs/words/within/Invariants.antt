@@ -1,6 +1,5 @@
 -- `replace_examples::words::within` is safe and ends. Assumes nothing.
 use Prim.Native.Nat.{◌-◌}
-use borrow.Author.Rules.{rules}
 use Rattle.replace_examples.proofs.words.within.Given as goal
 
 abbrev pub invariant-loop-i : goal.invariant-loop-i
