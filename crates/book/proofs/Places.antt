@@ -5,7 +5,7 @@ use mathlib.Core.Logic.{⊎_elim}
 use mathlib.Core.Bool.{Bool, true, false, cond}
 use mathlib.Core.Option.{Option, none}
 use mathlib.Core.List.{List}
-use Prim.Native.Nat.{ℕ, ◌+◌, ◌*◌, ◌/◌, ◌%◌, ◌≤◌, ◌<◌, zero-le}
+use Prim.Native.Nat.{ℕ, ◌+◌, ◌*◌, ◌/◌, ◌%◌, ◌≤◌, ◌<◌}
 use native.Mathlib.Omega.{arith}
 use lib.Arith.{digits_div, digits_mod}
 use lib.Dec.{eqb, ltb}
@@ -125,13 +125,6 @@ module _ (place : ℕ → ℕ → ℕ) (width : ℕ) (apart : Apart place width)
 -- the grid, but nothing at record n below place i
 abbrev pub cleared_to : {A : Type 0} → (ℕ → ℕ → Option A) → ℕ → ℕ → ℕ → ℕ → Option A
 cleared_to grid n i = put grid n (λ x. unless (ltb x i) (grid n x))
-
--- nothing is cleared below place 0
-pub cleared_none : {A : Type 0} (grid : ℕ → ℕ → Option A) (n : ℕ) → cleared_to grid n 0 ≡ grid
-cleared_none grid n =
-    fun_ext λ a.
-    fun_ext λ b.
-    ⊎_elim (λ e. rw (eq-eqb a n e, le-ltb b 0 zero-le, e)) (λ ne. rw (ne_eqb a n ne)) (equal_or_not a n)
 
 -- one place more
 pub cleared_more : {A : Type 0} (grid : ℕ → ℕ → Option A) (n i : ℕ)

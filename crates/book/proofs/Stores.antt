@@ -1,5 +1,5 @@
 -- What the tree of a book is after one word of it is written. Assumes nothing.
-use mathlib.Core.Path.{◌≡◌, ap, sym, ◌∙◌}
+use mathlib.Core.Path.{◌≡◌, ap, ◌∙◌}
 use mathlib.Core.Bool.{cond}
 use mathlib.Core.Option.{Option, none}
 use mathlib.Core.List.{List}
@@ -17,7 +17,7 @@ use Rattle.definitions.specs.Edit.{with_transition}
 use Rattle.definitions.proofs.Words.{same_tree}
 use Rattle.book.specs.Fields.{Holds, with_machine_field, with_node_field, without_transitions}
 use Rattle.book.proofs.Places.{kept, kept_grid, changed, Apart, place_same, field_put, field_kept, grid_put, grid_kept}
-use Rattle.book.proofs.Places.{cleared_to, cleared_none, cleared_more, cleared_all, grid_past}
+use Rattle.book.proofs.Places.{cleared_to, cleared_more, cleared_all, grid_past}
 
 -- where word k of a machine's record stands, and that each has a place of its own; the same of a node's
 abbrev machine_place : ℕ → ℕ → ℕ
@@ -188,10 +188,7 @@ holds_then f first second = record { length = second.length; tree = second.tree 
 abbrev pub cleared_tree : List ℕ → ℕ → ℕ → Tree
 cleared_tree ws n x = with_transitions (tree_of ws) (cleared_to (tree_of ws).transition n x)
 
--- at first, after one command more, and after the last command
-pub clearing_none : (ws : List ℕ) (n : ℕ) → length ws ≡ book_length → Holds ws (cleared_tree ws n 0)
-clearing_none ws n l = record { length = l; tree = ap (with_transitions (tree_of ws)) (sym (cleared_none (tree_of ws).transition n)) }
-
+-- after one command more, and after the last command
 pub clearing_more : (ws : List ℕ) (n x : ℕ) {now after : List ℕ} → Holds now (cleared_tree ws n x)
     → Holds after (with_transition (tree_of now) n x none) → Holds after (cleared_tree ws n (x + 1))
 unfolding with_transition

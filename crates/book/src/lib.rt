@@ -35,13 +35,6 @@ pub const ABSENT: u32 = 65535;
 
 pub const BLANK: u32 = 4294967295;
 
-// The number in 64 bits, in which costs are added.
-pub fn wide(x: u32) -> u64
-    ensures { (result ≡ x) × (result < 4294967296) }
-{
-    x as u64
-}
-
 // The number at place i of a list.
 pub fn word(list: &[u32], i: u32) -> u32
     requires { i < length list.now }
@@ -251,10 +244,8 @@ fn clear_transitions(book: &mut [u32], n: u32)
     requires { (length book.old ≡ book_length) × (n < nodes) }
     ensures { Holds book.new (without_transitions (tree_of book.old) n) }
 {
-    let mut x = 0u32;
-    while x < COMMANDS {
+    for x in 0..COMMANDS {
         set_transition(book, n, x, BLANK);
-        x += 1;
     }
 }
 

@@ -1,8 +1,9 @@
 // Document 01's examples of calls on books, run: the mast book's words are stored by hand, and each line says what a call answered.
 #![tactic(auto)]
 
-use stepping::StepAnswer;
-use writing::WriteAnswer;
+use refusals::Refusal;
+use stepping::Moved;
+use trying::{decimal, front, front_mut, number, status, text};
 
 // The descriptor of standard output.
 const STDOUT_FILENO: i32 = 1;
@@ -13,50 +14,44 @@ type Book = [u32; book::BOOK];
 type Sheet = [u32; sheet::SHEET];
 
 // Writes a text, then a number, then a newline.
-fn line(text: &[u8], n: u32) {
-    io::write_all(STDOUT_FILENO, text);
-    io::print_decimal(STDOUT_FILENO, n as u64);
-    io::write_all(STDOUT_FILENO, b"\n");
+fn line(t: &[u8], n: u32) {
+    text(t);
+    decimal(n);
+    text(b"\n");
 }
 
 // Writes a text, then two numbers with a space between, then a newline.
-fn pair(text: &[u8], a: u32, b: u32) {
-    io::write_all(STDOUT_FILENO, text);
-    io::print_decimal(STDOUT_FILENO, a as u64);
-    io::write_all(STDOUT_FILENO, b" ");
-    io::print_decimal(STDOUT_FILENO, b as u64);
-    io::write_all(STDOUT_FILENO, b"\n");
+fn pair(t: &[u8], a: u32, b: u32) {
+    text(t);
+    decimal(a);
+    number(b);
+    text(b"\n");
 }
 
-// Whether two books have the same words.
-fn same(a: &Book, b: &Book) -> u32 {
-    let mut i = 0usize;
-    while i < book::BOOK {
-        if a[i] != b[i] {
-            return 0;
-        }
-        i += 1;
-    }
-    1
+// Writes a text, then the number of a refusal, or 0 where there is none.
+fn refusal_line(t: &[u8], refusal: Option<Refusal>) {
+    line(t, status(refusal));
+}
+
+// Writes a text, then 1 where something holds, else 0.
+fn whether(t: &[u8], holds: bool) {
+    line(t, holds as u32);
 }
 
 // Copies a book by its stream into the ladder's holding, and writes the stream's length, or the refusal, and whether the words are the same.
-fn show_copy(text: &[u8], book: &Book, out: &mut [u8; 80]) {
+fn show_copy(t: &[u8], book: &Book, out: &mut [u8; 80]) {
     let mut other = [0u32; book::BOOK];
     let mut sheet = [0u32; sheet::SHEET];
-    open_ladder(&mut other, &mut sheet);
-    pair(
-        text,
-        copy(book, out, &mut other, &mut sheet),
-        same(book, &other),
-    );
+    let _ = open_ladder(&mut other, &mut sheet);
+    let copied = copying::copy(book, out, &mut other, &mut sheet);
+    pair(t, length_of(copied), (*book == other) as u32);
 }
 
-// The number that a copy answers.
-fn copy(book: &Book, out: &mut [u8; 80], other: &mut Book, sheet: &mut Sheet) -> u32 {
-    match copying::copy(book, out, other, sheet) {
-        WriteAnswer::Written(n) => n,
-        WriteAnswer::Refused(k) => k,
+// The length that is written, or the number of the refusal.
+fn length_of(written: Result<u32, Refusal>) -> u32 {
+    match written {
+        Ok(n) => n,
+        Err(refusal) => refusal.number(),
     }
 }
 
@@ -78,46 +73,40 @@ fn store_mast(book: &mut Book) {
 }
 
 // Writes the state and the cost of a step and the node whose transition was used, or the refusal.
-fn show_step(text: &[u8], book: &Book, state: u32, command: u32) {
+fn show_step(t: &[u8], book: &Book, state: u32, command: u32) {
     match stepping::step(book, state, command) {
-        StepAnswer::Moved { state, cost, node } => {
-            io::write_all(STDOUT_FILENO, text);
-            io::print_decimal(STDOUT_FILENO, state as u64);
+        Ok(Moved { state, cost, node }) => {
+            text(t);
+            decimal(state);
             pair(b" ", cost, node);
         }
-        StepAnswer::Refused(k) => line(text, k),
+        Err(refusal) => line(t, refusal.number()),
     }
 }
 
 // Writes the length that Write answers for the front of a list, or the refusal.
-fn write_front(text: &[u8], book: &[u32], out: &mut [u8], room: usize) {
-    if out.len() < room {
-        return;
-    }
-    match writing::write(book, &mut out[..room]) {
-        WriteAnswer::Written(n) => line(text, n),
-        WriteAnswer::Refused(k) => line(text, k),
-    }
+fn write_front(t: &[u8], book: &[u32], out: &mut [u8], room: usize) {
+    line(t, length_of(writing::write(book, front_mut(out, room))));
 }
 
 // The same for a list of 80 bytes.
-fn show_write(text: &[u8], book: &Book, out: &mut [u8; 80], room: usize) {
-    write_front(text, book, out, room);
+fn show_write(t: &[u8], book: &Book, out: &mut [u8; 80], room: usize) {
+    write_front(t, book, out, room);
 }
 
 // Writes the number that Choose leaves in its word, and the length of the part.
-fn show_choice<'a>(text: &[u8], book: &Book, a: u32, b: u32, first: &'a [u8], second: &'a [u8]) {
+fn show_choice<'a>(t: &[u8], book: &Book, a: u32, b: u32, first: &'a [u8], second: &'a [u8]) {
     let mut word = 9999u32;
     let part = choosing::choose(book, a, b, first, second, &mut word);
-    pair(text, word, (part.len() % 65536) as u32);
+    pair(t, word, (part.len() % 65536) as u32);
 }
 
 // Puts a word that tears the book, asks for a step, and puts the old word back.
-fn tear(text: &[u8], book: &mut Book, at: usize, word: u32) {
+fn tear(t: &[u8], book: &mut Book, at: usize, word: u32) {
     if at < book::BOOK {
         let kept = book[at];
         book[at] = word;
-        show_step(text, book, 0, 0);
+        show_step(t, book, 0, 0);
         book[at] = kept;
     }
 }
@@ -152,53 +141,36 @@ fn show_torn(book: &mut Book) {
     );
 }
 
-// The number in 64 bits.
-fn wide(x: u8) -> u64 {
-    x as u64
-}
-
 // Writes bytes in hexadecimal.
 fn dump(bytes: &[u8; 80]) {
-    let mut i = 0usize;
-    while i < 80 {
-        let b = bytes[i];
-        io::print_hex(STDOUT_FILENO, wide(b), 2);
-        i += 1;
+    for b in bytes {
+        io::print_hex(STDOUT_FILENO, *b as u64, 2);
     }
 }
 
 // Open fresh with the book's first words lent.
-fn open_short(book: &mut [u32], sheet: &mut [u32], words: usize) -> u32 {
-    if book.len() < words {
-        return 0;
-    }
-    opening::open_fresh(&mut book[..words], sheet)
+fn open_short(book: &mut [u32], sheet: &mut [u32], words: usize) -> Result<(), Refusal> {
+    opening::open_fresh(front_mut(book, words), sheet)
 }
 
 // Opens fresh, first with a book that is a word too short, which must stay as it is.
 fn show_open(book: &mut Book, sheet: &mut Sheet) {
-    line(b"open short: ", open_short(book, sheet, book::BOOK - 1));
-    line(b"untouched: ", same(book, &[7u32; book::BOOK]));
-    line(b"open fresh: ", opening::open_fresh(book, sheet));
+    let short = open_short(book, sheet, book::BOOK - 1);
+    refusal_line(b"open short: ", short.err());
+    whether(b"untouched: ", *book == [7u32; book::BOOK]);
+    refusal_line(b"open fresh: ", opening::open_fresh(book, sheet).err());
 }
 
 // Opens the ladder.
-fn open_ladder(book: &mut Book, sheet: &mut Sheet) -> u32 {
+fn open_ladder(book: &mut Book, sheet: &mut Sheet) -> Result<(), Refusal> {
     opening::open_ladder(book, sheet)
 }
 
 // A step with the book's first words lent.
 fn step_short(book: &[u32], words: usize) {
-    if book.len() < words {
-        return;
-    }
-    match stepping::step(&book[..words], 0, 0) {
-        StepAnswer::Moved {
-            state,
-            cost,
-            node: _,
-        } => pair(b"short book: ", state, cost),
-        StepAnswer::Refused(k) => line(b"short book: ", k),
+    match stepping::step(front(book, words), 0, 0) {
+        Ok(moved) => pair(b"short book: ", moved.state, moved.cost),
+        Err(refusal) => line(b"short book: ", refusal.number()),
     }
 }
 
@@ -290,8 +262,8 @@ fn main() {
     show_hold(&mut book);
     show_leaving(&mut book);
     show_torn(&mut book);
-    line(b"same book: ", same(&book, &before));
-    line(b"open ladder: ", open_ladder(&mut book, &mut sheet));
+    whether(b"same book: ", book == before);
+    refusal_line(b"open ladder: ", open_ladder(&mut book, &mut sheet).err());
     show_step(b"ladder 1 by 1: ", &book, 1, 1);
     show_step(b"ladder 140 by 1: ", &book, 140, 1);
     show_step(b"ladder 0 by 1: ", &book, 0, 1);

@@ -1,11 +1,11 @@
 -- The used part of a list, one command at a time, as the loop goes. Assumes nothing.
-use mathlib.Core.Path.{◌≡◌, refl, sym, ◌∙◌, ap, ap₂}
+use mathlib.Core.Path.{◌≡◌, refl, sym, ◌∙◌, ap}
 use mathlib.Core.Option.{Option, none, some}
 use mathlib.Core.List.{[], List, ◌∷◌}
-use Prim.Native.Nat.{ℕ, suc, ◌+◌, ◌*◌, ◌≤◌, ◌<◌, min}
+use Prim.Native.Nat.{ℕ, suc, ◌+◌, ◌*◌, ◌≤◌, ◌<◌}
 use native.Mathlib.Omega.{arith}
 use lib.ListN.{length, get_or, take, drop, length-take, drop_of_length-le}
-use lib.Seq.{drop-cons, get_or-take}
+use lib.Seq.{drop-cons}
 use borrow.Author.Tests.{eq-eqb, ne_eqb, lt-ltb, le-ltb}
 use Rattle.definitions.specs.Basics.{◌>>=◌}
 use Rattle.definitions.specs.Limits.{commands, largest_step_cost, longest_list}
@@ -20,10 +20,6 @@ shifted i c o = o >>= λ u. some (record { count = i + u.count; cost = c + u.cos
 
 used : (i : ℕ) {j c d : ℕ} → i ≡ j → c ≡ d → ◌≡◌ {A = Option Used} (some (record { count = i; cost = c })) (some (record { count = j; cost = d }))
 used i p q = λ k. some (record { count = p k; cost = q k })
-
-pub shifted_none : (o : Option Used) → o ≡ shifted 0 0 o
-shifted_none none = refl
-shifted_none (some u) = used u.count (omega arith) (omega arith)
 
 pub shifted_more : (i c d : ℕ) (o : Option Used) → shifted i c (shifted 1 d o) ≡ shifted (i + 1) (c + d) o
 shifted_more i c d none = refl
@@ -59,86 +55,66 @@ module _ (t : Tree) {s b : ℕ} where
       one none = refl
       one (some u) = used (suc u.count) (omega arith) refl
 
--- what is looked at of a list, its first k commands: its end, and the command at a place before it
-pub looked_end : (k : ℕ) (list : List ℕ) (i : ℕ) → min (length list) k ≤ i → drop i (take k list) ≡ []
-looked_end k list i h =
-    let past : length (take k list) ≤ i = omega (arith, length-take k list) in
-    drop_of_length-le (take k list) past
-
-pub looked_at : (k : ℕ) (list : List ℕ) (i : ℕ) → i < min (length list) k → drop i (take k list) ≡ get_or list i 0 ∷ drop (i + 1) (take k list)
-looked_at k list i h =
-    let inside : i < length (take k list) = omega (arith, length-take k list) in
-    let short : i < k = omega arith in
-    let next : suc i ≡ i + 1 = omega arith in
-    drop-cons (take k list) i 0 inside ∙ ap₂ (λ (x : ℕ) (xs : List ℕ). x ∷ xs) (get_or-take k list i 0 short) (ap (λ (j : ℕ). drop j (take k list)) next)
-
 -- ---- the loop
 
--- The loop's invariant: s is a state, i commands at this cost lead to it, and what is used from there on, with these before it, is what
--- is used of the whole list.
-pub record Upto (t : Tree) (a b : ℕ) (list : List ℕ) (s i cost : ℕ) : Type 0 where
+-- The loop's invariant: s is a state, i commands of those looked at, at this cost, lead to it, and what is used from there on, with these before
+-- it, is what is used of all.
+pub record Upto (t : Tree) (a b : ℕ) (looked : List ℕ) (s i cost : ℕ) : Type 0 where
   pub used : UsedNode t s
   pub plain : t.below s ≡ none
-  pub short : i ≤ min (length list) longest_list
   pub cheap : cost ≤ i * largest_step_cost
-  pub same : used_of t a b list ≡ shifted i cost (used_part t b s (drop i (take longest_list list)))
+  pub same : used_part t b a looked ≡ shifted i cost (used_part t b s (drop i looked))
 
--- before the first command
-pub upto_none : (t : Tree) (a b : ℕ) (list : List ℕ) → UsedNode t a → t.below a ≡ none → Upto t a b list a 0 0
-upto_none t a b list used plain =
-    record {
-      used = used;
-      plain = plain;
-      short = omega arith;
-      cheap = omega arith;
-      same = shifted_none (used_part t b a (take longest_list list));
-    }
+module _ {t : Tree} (sound : Sound t) {a b : ℕ} (list : List ℕ) {looked : List ℕ} (front : looked ≡ take longest_list list) {s i cost : ℕ}
+    (upto : Upto t a b looked s i cost) where
+  -- what is used of all is what is used of the list
+  of_list : {o : Option Used} → used_part t b a looked ≡ o → o ≡ used_of t a b list
+  of_list e = sym (ap (used_part t b a) (sym front) ∙ e)
 
-module _ {t : Tree} (sound : Sound t) {a b : ℕ} {list : List ℕ} {s i cost : ℕ} (upto : Upto t a b list s i cost) where
   -- where s is b
   pub upto_arrives : s ≡ b → some (record { count = i; cost = cost }) ≡ used_of t a b list
-  upto_arrives e =
-      sym
-      (upto.same
-      ∙ ap (shifted i cost) (part_arrives t e (drop i (take longest_list list)))
-      ∙ used (i + 0) (omega arith) (omega arith))
+  upto_arrives e = of_list (upto.same ∙ ap (shifted i cost) (part_arrives t e (drop i looked)) ∙ used (i + 0) (omega arith) (omega arith))
 
   -- where nothing more is looked at
-  pub upto_ends : (s ≡ b → ⊥) → min (length list) longest_list ≤ i → none ≡ used_of t a b list
+  pub upto_ends : (s ≡ b → ⊥) → length looked ≤ i → none ≡ used_of t a b list
   upto_ends e end =
-      sym (upto.same ∙ ap (λ (xs : List ℕ). shifted i cost (used_part t b s xs)) (looked_end longest_list list i end) ∙ ap (shifted i cost) (part_ends t e))
+      of_list
+      (upto.same ∙ ap (λ (xs : List ℕ). shifted i cost (used_part t b s xs)) (drop_of_length-le looked end) ∙ ap (shifted i cost) (part_ends t e))
 
-  module _ (e : s ≡ b → ⊥) (inside : i < min (length list) longest_list) (x : ℕ) (at : x ≡ get_or list i 0) where
-    here : used_of t a b list ≡ shifted i cost (used_part t b s (x ∷ drop (i + 1) (take longest_list list)))
+  module _ (e : s ≡ b → ⊥) (inside : i < length looked) (x : ℕ) (at : x ≡ get_or looked i 0) where
+    here : used_part t b a looked ≡ shifted i cost (used_part t b s (x ∷ drop (i + 1) looked))
     here =
+        let next : suc i ≡ i + 1 = omega arith in
         upto.same
-        ∙ ap (λ (xs : List ℕ). shifted i cost (used_part t b s xs)) (looked_at longest_list list i inside)
-        ∙ ap (λ (y : ℕ). shifted i cost (used_part t b s (y ∷ drop (i + 1) (take longest_list list)))) (sym at)
+        ∙ ap (λ (xs : List ℕ). shifted i cost (used_part t b s xs)) (drop-cons looked i 0 inside)
+        ∙ ap (λ (j : ℕ). shifted i cost (used_part t b s (get_or looked i 0 ∷ drop j looked))) next
+        ∙ ap (λ (y : ℕ). shifted i cost (used_part t b s (y ∷ drop (i + 1) looked))) (sym at)
 
     -- a byte over 15
     pub upto_over : commands ≤ x → none ≡ used_of t a b list
-    upto_over over = sym (here ∙ ap (shifted i cost) (part_over t e x (drop (i + 1) (take longest_list list)) over))
+    upto_over over = of_list (here ∙ ap (shifted i cost) (part_over t e x (drop (i + 1) looked) over))
 
     -- a stop
     pub upto_stops : x < commands → step t s x ≡ none → none ≡ used_of t a b list
-    upto_stops range stop = sym (here ∙ ap (shifted i cost) (part_stops t e x (drop (i + 1) (take longest_list list)) range stop))
+    upto_stops range stop = of_list (here ∙ ap (shifted i cost) (part_stops t e x (drop (i + 1) looked) range stop))
 
     -- one command more
-    pub upto_moves : x < commands → {n c : ℕ} → step t s x ≡ some (record { node = n; cost = c }) → Upto t a b list n (i + 1) (cost + c)
+    pub upto_moves : x < commands → {n c : ℕ} → step t s x ≡ some (record { node = n; cost = c }) → Upto t a b looked n (i + 1) (cost + c)
     upto_moves range {n} {c} moved =
         let cheap = step_cost sound t.root s x moved in
         let (m, own, plain) = step_state sound t.root s x moved in
         record {
           used = (m, own);
           plain = plain;
-          short = omega arith;
           cheap = omega (arith, upto.cheap);
           same =
               here
-              ∙ ap (shifted i cost) (part_moves t e x (drop (i + 1) (take longest_list list)) range moved)
-              ∙ shifted_more i cost c (used_part t b n (drop (i + 1) (take longest_list list)));
+              ∙ ap (shifted i cost) (part_moves t e x (drop (i + 1) looked) range moved)
+              ∙ shifted_more i cost c (used_part t b n (drop (i + 1) looked));
         }
 
     -- the sum of costs fits
     pub upto_fits : x < commands → {n c : ℕ} → step t s x ≡ some (record { node = n; cost = c }) → cost + c ≤ 65536 * largest_step_cost
-    upto_fits range moved = omega (arith, upto.cheap, step_cost sound t.root s x moved)
+    upto_fits range moved =
+        let few : length looked ≤ longest_list = omega (arith, ap length front, length-take longest_list list) in
+        omega (arith, upto.cheap, step_cost sound t.root s x moved)

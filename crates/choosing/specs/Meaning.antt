@@ -1,36 +1,25 @@
 -- What the answers of this crate's functions mean.
-use Rattle.std.specs.Prelude.{◌≡◌, ℕ}
-use Rattle.std.proofs.Math.Option.{Option, none, some}
-use Rattle.definitions.specs.Choose.{Used, Choice, first, second}
-use Rattle.choosing.specs.declared.Part.{Part}
-use Rattle.choosing.specs.declared.Part.TheVariants.{Arrives, Ends}
+use Rattle.std.specs.Prelude.{Option, Some, None, Result, Ok, Err}
+use Rattle.std.proofs.Math.Option as maybe
+use Rattle.definitions.specs.Choose as asked
+use Rattle.refusals.specs.declared.Refusal.{Refusal}
+use Rattle.choosing.specs.declared.Used.{Used}
 use Rattle.choosing.specs.declared.Chosen.{Chosen}
-use Rattle.choosing.specs.declared.Chosen.TheVariants.{First, Second, Refused}
+use Rattle.choosing.specs.declared.Chosen.TheVariants.{First, Second}
 
 -- the used part that an answer says
-abbrev pub used_in : Part → Option Used
-used_in (Arrives k c) = some (record { count = k; cost = c })
-used_in Ends = none
+abbrev pub used_in : Option Used → maybe.Option asked.Used
+used_in (Some u) = maybe.some (record { count = u.count; cost = u.cost })
+used_in None = maybe.none
 
--- the part that an answer of `choice` says, and document 01's number; refused, the empty front of the first list
-abbrev pub choice_of : Chosen → Choice
-choice_of (First k) = first k
-choice_of (Second k) = second k
-choice_of (Refused n) = first 0
-
-abbrev pub number_of : Chosen → ℕ
-number_of (First k) = 0
-number_of (Second k) = 0
-number_of (Refused n) = n
-
--- an answer that refuses has a number other than 0
-abbrev pub Numbered : Chosen → Type 0
-Numbered (First k) = Unit
-Numbered (Second k) = Unit
-Numbered (Refused n) = n ≡ 0 → ⊥
+-- the part that an answer of `choice` says; refused, the empty front of the first list
+abbrev pub choice_of : Result Chosen Refusal → asked.Choice
+choice_of (Ok (First k)) = asked.first k
+choice_of (Ok (Second k)) = asked.second k
+choice_of (Err r) = asked.first 0
 
 -- the answer for a choice; where there is none, 18
-abbrev pub chosen_by : Option Choice → Chosen
-chosen_by none = Refused 18
-chosen_by (some (first k)) = First k
-chosen_by (some (second k)) = Second k
+abbrev pub chosen_by : maybe.Option asked.Choice → Result Chosen Refusal
+chosen_by maybe.none = Err Refusal.NoArrival
+chosen_by (maybe.some (asked.first k)) = Ok (First k)
+chosen_by (maybe.some (asked.second k)) = Ok (Second k)

@@ -1,116 +1,94 @@
 // Choose: the used part of the cheaper of two lists of commands (document 01, "Writing, choosing, the session").
 #![tactic(auto)]
 
-ghost use Rattle.std.specs.Prelude.{◌≡◌, ◌<◌, min, length, get_or};
+ghost use Rattle.std.specs.Prelude.{◌≡◌, take};
 ghost use Rattle.std.proofs.Math.Option.{none};
 ghost use Rattle.definitions.specs.Limits.{longest_list};
 ghost use Rattle.definitions.specs.Tree.{UsedNode};
 ghost use Rattle.definitions.specs.Book.{tree_of, WellFormed};
 ghost use Rattle.definitions.specs.Choose.{used_of, cheaper, ChoiceSays, ChooseSays};
-ghost use Rattle.choosing.specs.Meaning.{used_in, chosen_by, choice_of, number_of, Numbered};
+ghost use Rattle.refusals.specs.Meaning.{status_of};
+ghost use Rattle.choosing.specs.Meaning.{used_in, chosen_by, choice_of};
 
-use stepping::StepAnswer;
+use refusals::Refusal;
 
-// How many commands of a list are used up to its first arrival, and their cost; or that it ends before.
-#[derive(Drop)]
-pub enum Part {
-    Arrives { count: usize, cost: u64 },
-    Ends,
+// How many commands of a list are used up to its first arrival, and their cost.
+#[derive(Clone, Copy)]
+struct Used {
+    count: usize,
+    cost: u64,
 }
 
-// A front part of the first or of the second list, by the number of its commands; or a refusal's number.
-#[derive(Drop)]
+// A front part of the first or of the second list, by the number of its commands.
+#[derive(Clone, Copy, Debug, PartialEq, Eq)]
 pub enum Chosen {
     First(usize),
     Second(usize),
-    Refused(u32),
 }
 
-// The command at place i of a list.
-fn command_at(list: &[u8], i: usize) -> u32
-    requires { i < length list.now }
-    ensures { result ≡ get_or list.now i 0 }
+// The commands of a list that are looked at.
+fn looked_at(list: &[u8]) -> &[u8]
+    ensures { result.now ≡ take longest_list list.now }
 {
-    let x = list[i];
-    x as u32
+    &list[..list.len().min(65536)]
 }
 
-// How many commands of a list of n are looked at.
-fn limit(n: usize) -> usize
-    ensures { result ≡ min n longest_list }
-{
-    if n < 65536 { n } else { 65536 }
-}
-
-// The used part of a list from state a up to its first arrival at b.
-fn used_part(book: &[u32], a: u32, b: u32, list: &[u8]) -> Part
+// The used part of a list from state a up to its first arrival at b, if it arrives.
+fn used_part(book: &[u32], a: u32, b: u32, list: &[u8]) -> Option<Used>
     requires { WellFormed book.now × UsedNode (tree_of book.now) a × ((tree_of book.now).below a ≡ none) }
     ensures { used_in result ≡ used_of (tree_of book.now) a b list.now }
 {
-    let end = limit(list.len());
+    let looked = looked_at(list);
     let mut s = a;
-    let mut i = 0usize;
     let mut cost = 0u64;
-    while s != b {
-        if end <= i {
-            return Part::Ends; // nothing more is looked at
+    for (i, x) in looked.iter().enumerate() {
+        if s == b {
+            return Some(Used { count: i, cost });
         }
-        let x = command_at(list, i);
-        if 16 <= x {
-            return Part::Ends; // a byte over 15
+        let command = u32::from(*x);
+        if book::COMMANDS <= command {
+            return None; // a byte over 15
         }
-        let StepAnswer::Moved {
-            state: next,
-            cost: c,
-            node: _,
-        } = stepping::step_from(book, s, x)
-        else {
-            return Part::Ends; // a stop
+        let Ok(moved) = stepping::step_from(book, s, command) else {
+            return None; // a stop
         };
-        s = next;
-        cost += book::wide(c);
-        i += 1;
+        s = moved.state;
+        cost += u64::from(moved.cost);
     }
-    Part::Arrives { count: i, cost }
+    if s != b {
+        return None; // nothing more is looked at
+    }
+    Some(Used {
+        count: looked.len(),
+        cost,
+    })
 }
 
 // The cheaper of two used parts, on equal cost the first; 18 where neither list arrives.
-fn cheaper(first: Part, second: Part) -> Chosen
+fn cheaper(first: Option<Used>, second: Option<Used>) -> Result<Chosen, Refusal>
     ensures { result ≡ chosen_by (cheaper (used_in first) (used_in second)) }
 {
-    match first {
-        Part::Arrives { count: n, cost: c } => match second {
-            Part::Arrives { count: k, cost: d } => {
-                if d < c {
-                    Chosen::Second(k)
-                } else {
-                    Chosen::First(n)
-                }
+    match (first, second) {
+        (None, None) => Err(Refusal::NoArrival),
+        (Some(one), None) => Ok(Chosen::First(one.count)),
+        (None, Some(two)) => Ok(Chosen::Second(two.count)),
+        (Some(one), Some(two)) => {
+            if two.cost < one.cost {
+                Ok(Chosen::Second(two.count))
+            } else {
+                Ok(Chosen::First(one.count))
             }
-            Part::Ends => Chosen::First(n),
-        },
-        Part::Ends => match second {
-            Part::Arrives { count: k, cost: _ } => Chosen::Second(k),
-            Part::Ends => Chosen::Refused(18),
-        },
+        }
     }
 }
 
 // Which front part of which list Choose gives back. It refuses 1 (a wrong length), 2 (book not well formed), 6 (number out of range),
 // 7 (node not in use), 14 (node not plain), 18 (neither arrives).
-pub fn choice(book: &[u32], a: u32, b: u32, first: &[u8], second: &[u8]) -> Chosen
-    ensures { ChoiceSays book.now a b first.now second.now (choice_of result) (number_of result) × Numbered result }
+pub fn choice(book: &[u32], a: u32, b: u32, first: &[u8], second: &[u8]) -> Result<Chosen, Refusal>
+    ensures { ChoiceSays book.now a b first.now second.now (choice_of result) (status_of result) }
 {
-    if book.len() != book::BOOK {
-        return Chosen::Refused(1);
-    }
-    if !wellformed::well_formed(book) {
-        return Chosen::Refused(2);
-    }
-    let refusal = stepping::judge_states(book, a, b);
-    if refusal != 0 {
-        return Chosen::Refused(refusal);
-    }
+    wellformed::judge(book)?;
+    stepping::judge_states(book, a, b)?;
     let one = used_part(book, a, b, first);
     let two = used_part(book, a, b, second);
     cheaper(one, two)
@@ -130,16 +108,16 @@ pub fn choose<'a>(
         first.entry.ref_ptr second.entry.ref_ptr result.ref_ptr }
 {
     match choice(book, a, b, first, second) {
-        Chosen::First(n) => {
+        Ok(Chosen::First(n)) => {
             *word = 0;
             &first[..n]
         }
-        Chosen::Second(n) => {
+        Ok(Chosen::Second(n)) => {
             *word = 0;
             &second[..n]
         }
-        Chosen::Refused(k) => {
-            *word = k;
+        Err(refusal) => {
+            *word = refusal.number();
             &first[..0]
         }
     }

@@ -55,10 +55,8 @@ pub fn clear_nodes(book: &mut [u32], sheet: &mut [u32], gone: &[u32; 256])
     requires { Sized book.old sheet.old }
     ensures { NodesGone book.old sheet.old book.new sheet.new (up_to (chosen gone.now) nodes) }
 {
-    let mut n = 0u32;
-    while n < book::NODES {
+    for n in 0..book::NODES {
         drop_node_if(book, sheet, gone, n);
-        n += 1;
     }
 }
 
@@ -67,9 +65,7 @@ pub fn clear_machines(book: &mut [u32], sheet: &mut [u32], gone: &[u32; 64])
     requires { Sized book.old sheet.old }
     ensures { MachinesGone book.old sheet.old book.new sheet.new (up_to (chosen gone.now) machines) }
 {
-    let mut m = 0u32;
-    while m < book::MACHINES {
+    for m in 0..book::MACHINES {
         drop_machine_if(book, sheet, gone, m);
-        m += 1;
     }
 }

@@ -6,7 +6,7 @@ use mathlib.Core.Logic.{◌⊎◌, inl, inr, ⊎_elim}
 use mathlib.Core.Bool.{Bool, true, false, cond}
 use mathlib.Core.Option.{Option, none, some}
 use mathlib.Core.List.{List}
-use Prim.Native.Nat.{ℕ, zero, suc, ◌+◌, ◌-◌, ◌<◌}
+use Prim.Native.Nat.{ℕ, zero, suc, ◌-◌, ◌<◌}
 use native.Mathlib.Omega.{arith}
 use lib.Dec.{eqb}
 use lib.ListN.{length, get_or, set, length-set}
@@ -21,7 +21,6 @@ use Rattle.definitions.proofs.Words.{present_word, no_below}
 use Rattle.definitions.proofs.Commands.{over_top, over_up}
 use Rattle.plantheory.specs.Search.{opened_for, land_f, land}
 use Rattle.plantheory.proofs.Landing.{land_there}
-use Rattle.search.specs.Parts.{at}
 use Rattle.stepping.proofs.Laws.{used_range, down_told}
 use Rattle.stepping.proofs.Upward.{own, top, held, used_holder}
 use Rattle.crossing.specs.Parts.{is_open, OpenedFor, Itself, LandsAt, LandedAbove, Landings}
@@ -110,13 +109,6 @@ module _ (book : List ℕ) (w : WellFormed book) (words : List ℕ) (v : ℕ) (u
 
 -- ---- the list of landings
 
--- the first k nodes have themselves
-pub itself_more : (lands : List ℕ) {k : ℕ} → length lands ≡ nodes → k < nodes → ((v : ℕ) → v < k → at lands v ≡ v)
-    → (v : ℕ) → v < k + 1 → at (set lands k k) v ≡ v
-itself_more lands {k} room small first v less =
-    ⊎_elim (λ (same : v ≡ k). rw same (get_or-set_same lands k k 0 (omega arith)))
-    (λ (apart : v ≡ k → ⊥). get_or-set_other lands k v k 0 apart ∙ first v (omega arith)) (equal_or_not v k)
-
 -- where node h lands is stored
 module _ (t : Tree) (opened : ℕ → Bool) (lands : List ℕ) (room : length lands ≡ nodes) (h : ℕ) {w : ℕ} (small : h < nodes)
     (lands_w : (land t opened h ≡ some w) × (w < nodes)) where
@@ -135,10 +127,6 @@ pub record LandingWalk (t : Tree) (opened : ℕ → Bool) (s n : ℕ) (old new :
   pub used : UsedNode t n
   pub told : (v b : ℕ) → t.below v ≡ some b → over t b s ≡ true → (over t b n ≡ true) ⊎ LandsAt t opened new v
   pub kept : (v : ℕ) → LandsAt t opened old v → LandsAt t opened new v
-
--- at first
-pub landing_starts : (t : Tree) (opened : ℕ → Bool) {s : ℕ} {lands : List ℕ} → length lands ≡ nodes → UsedNode t s → LandingWalk t opened s s lands lands
-landing_starts t opened room used = record { room = room; used = used; told = λ v b bel on. inl on; kept = λ v right. right }
 
 module _ (book : List ℕ) (w : WellFormed book) {opened : ℕ → Bool} {s n : ℕ} {old new : List ℕ}
     (walk : LandingWalk (tree_of book) opened s n old new) {o h : ℕ} (owner : o ≡ word ((tree_of book).owner n))

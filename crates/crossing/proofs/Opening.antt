@@ -8,14 +8,13 @@ use Prim.Native.Nat.{ℕ, ◌<◌}
 use native.Mathlib.Omega.{arith}
 use lib.Dec.{eqb}
 use lib.ListN.{length, get_or, set, replicate, length-set}
-use Rattle.definitions.specs.Limits.{machines, nodes, absent}
+use Rattle.definitions.specs.Limits.{machines, absent}
 use Rattle.definitions.specs.Tree.{Tree, UsedNode, over}
 use Rattle.definitions.specs.Book.{word, tree_of, WellFormed}
 use Rattle.definitions.proofs.Words.{present_word, no_owner, owner_range}
 use Rattle.definitions.proofs.Commands.{over_top, over_up}
 use Rattle.plantheory.specs.Search.{opened_for}
 use Rattle.book.proofs.Chosen.{zeros_at, chosen_more}
-use Rattle.stepping.proofs.Laws.{used_range}
 use Rattle.stepping.proofs.Upward.{own, top, held, used_holder}
 use Rattle.crossing.specs.Parts.{is_open, MachinesOpened, OpenedFor, in_opened}
 
@@ -44,15 +43,7 @@ pub record Walking (t : Tree) (old new : List ℕ) (s n : ℕ) : Type 0 where
   pub used : UsedNode t n
   pub rest : (m : ℕ) → (over t m n || is_open new m) ≡ (over t m s || is_open old m)
 
--- at first
-pub walk_starts : (t : Tree) (words : List ℕ) (s : ℕ) → length words ≡ machines → UsedNode t s → Walking t words words s s
-walk_starts t words s room used = record { room = room; used = used; rest = λ m. refl }
-
 module _ (book : List ℕ) (w : WellFormed book) {old new : List ℕ} {s n : ℕ} (walk : Walking (tree_of book) old new s n) where
-  -- the node in hand is in range
-  pub hand_range : n < nodes
-  hand_range = used_range book w n walk.used
-
   module _ {o : ℕ} (owner : o ≡ word ((tree_of book).owner n)) where
     own_n : (tree_of book).owner n ≡ some o
     own_n = own book w n walk.used owner

@@ -1,45 +1,28 @@
 -- The moves that the tables take: an entry's, and those of the rows of opened machines and of others. Assumes nothing.
-use mathlib.Core.Path.{◌≡◌, refl, sym, ◌∙◌, subst}
-use mathlib.Core.Logic.{⊎_elim}
+use mathlib.Core.Path.{◌≡◌, refl, sym, ◌∙◌}
 use mathlib.Core.Bool.{Bool, true, false}
 use mathlib.Core.Option.{Option, none, some}
 use mathlib.Core.List.{List}
-use Prim.Native.Nat.{ℕ, ◌+◌, ◌/◌, ◌%◌, ◌≤◌, ◌<◌}
-use native.Mathlib.Omega.{arith}
-use borrow.Author.Tests.{eq-eqb, ne_eqb}
+use Prim.Native.Nat.{ℕ}
 use Rattle.definitions.specs.Basics.{◌>>=◌}
-use Rattle.definitions.specs.Limits.{nodes, levels, absent, largest_step_cost}
+use Rattle.definitions.specs.Limits.{absent}
 use Rattle.definitions.specs.Tree.{Tree, Transition, Sound}
 use Rattle.definitions.specs.Step.{Climb, found, passed, climb}
 use Rattle.definitions.specs.Sheet.{Rows}
 use Rattle.definitions.specs.Truth.{node_exit}
-use Rattle.definitions.proofs.Options.{none_some, some_same, equal_or_not, true_false}
+use Rattle.definitions.proofs.Options.{true_false}
 use Rattle.definitions.proofs.Path.{climb_found}
-use Rattle.definitions.proofs.Simple.{Cheap, climb_cheap}
 use Rattle.plantheory.specs.Search.{arrives, plan_move}
-use Rattle.search.specs.Search.{unreached, entry_move}
+use Rattle.search.specs.Search.{entry_move}
 use Rattle.search.specs.Tables.{BlankRow, RowFilled}
-use Rattle.search.proofs.Tables.{entry_none, entry_some}
-use Rattle.crossing.specs.Parts.{way_costs, way_of, in_opened, NodeList, Landings, landed, finds, leaves, land_move, WayFits}
+use Rattle.search.proofs.Tables.{entry_none}
+use Rattle.inheriting.specs.Inheriting.{landed, finds}
+use Rattle.crossing.specs.Parts.{in_opened, Landings, leaves, land_move}
 use Rattle.crossing.specs.Parts.{open_move}
 
 -- ---- the moves by where the targets land
 
 module _ {t : Tree} (s : Sound t) {lands : List ℕ} where
-  -- what is found leads to a node, and at no more than a step costs
-  pub finds_fits : NodeList lands → (n x w : ℕ) → way_of w ≡ finds t lands n x → WayFits w
-  unfolding finds
-  finds_fits list n x w says a e = go (climb t t.root n x) refl (sym says ∙ e)
-    where
-      go : (k : Climb) → climb t t.root n x ≡ k → landed lands k ≡ some a → (a.target < nodes) × (a.cost ≤ largest_step_cost)
-      go (passed c) up f = absurd (none_some {a = a} refl f)
-      go (found u v c) up f =
-          let at_v = climb_found s t.root n x up in
-          subst (λ (b : Transition). (b.target < nodes) × (b.cost ≤ largest_step_cost)) (some_same refl f) (
-            list.inside v (s.node_range v at_v.machine at_v.target_owner),
-            subst (Cheap levels) up (climb_cheap s t.root n x),
-          )
-
   -- they are the moves of the search
   pub land_plan : (r : Rows) {opened : ℕ → Bool} → Landings t opened lands → (n x : ℕ) → land_move t r lands n x ≡ plan_move t r opened n x
   unfolding land_move plan_move finds
@@ -53,17 +36,6 @@ module _ {t : Tree} (s : Sound t) {lands : List ℕ} where
           rw (landings.says v (s.node_range v at_v.machine at_v.target_owner))
 
 -- ---- one entry
-
--- the move of a node left at cost e, from the word of what is found: the word for nothing has the word for absent as its node
-pub priced_costs : (w e : ℕ) → WayFits w → entry_move (w / way_costs) (e + w % way_costs) ≡ leaves (some e) (way_of w)
-unfolding way_of
-priced_costs w e inside =
-    ⊎_elim
-    (λ (free : w ≡ unreached). entry_none (w / way_costs) (e + w % way_costs) (omega arith) ∙ rw (eq-eqb w unreached free))
-    (λ (there : w ≡ unreached → ⊥).
-    let node : w / way_costs < nodes = (inside (record { target = w / way_costs; cost = w % way_costs }) (rw (ne_eqb w unreached there))).0 in
-    entry_some (w / way_costs) (e + w % way_costs) (λ z. omega arith) ∙ rw (ne_eqb w unreached there))
-    (equal_or_not w unreached)
 
 -- a node that is never left has none
 pub priced_never : (c : ℕ) (way : Option Transition) → entry_move absent c ≡ leaves none way

@@ -2,31 +2,24 @@
 // their nodes, with exit costs for what lies below, and the least costs over them are one search's. A node's place is its number.
 #![tactic(auto)]
 
-ghost use Rattle.std.specs.Prelude.{◌≡◌, cond, ℕ, ◌+◌, ◌*◌, ◌<◌, eqb, length};
+ghost use Rattle.std.specs.Prelude.{◌≡◌, ℕ, ◌<◌, length};
 ghost use Rattle.std.proofs.Math.Option.{some};
-ghost use Rattle.definitions.specs.Limits.{machines, nodes, commands, blank};
+ghost use Rattle.definitions.specs.Limits.{machines, nodes, commands};
 ghost use Rattle.definitions.specs.Tree.{UsedNode};
 ghost use Rattle.definitions.specs.Book.{tree_of, WellFormed};
 ghost use Rattle.definitions.specs.Sheet.{rows_of};
 ghost use Rattle.plantheory.specs.Search.{opened_for, land};
 ghost use Rattle.search.specs.Search.{entry_move};
 ghost use Rattle.search.specs.Tables.{TableRoom, FoundRoom, BlankRow, EntryFilled, RowFilled, Tabled};
-ghost use Rattle.sheet.specs.Exits.{Readable, exit_of, Exits};
+ghost use Rattle.refusals.specs.Meaning.{value_of};
+ghost use Rattle.sheet.specs.Exits.{Readable, Exits};
+ghost use Rattle.inheriting.specs.Inheriting.{way_of, WayFits, NodeList, UpRoom, OwnerRow, MachineRow, RootRow};
 ghost use Rattle.crossing.specs.Crossing.{Crossable, Crossed};
-ghost use Rattle.crossing.specs.Parts.{is_open, MachinesOpened, in_opened, OpenedFor, NodeList, Itself, LandedAbove, Landings};
-ghost use Rattle.crossing.specs.Parts.{way_costs, way_of, finds, leaves, land_move, UpRoom, OwnerRow, MachineRow, RootRow, HandedTo, HandedAbove, Prepared};
-ghost use Rattle.crossing.specs.Parts.{WayFits, after, open_move};
-
-use book::wide;
-use sheet::OwnExit;
-
-// What a command finds, as one word: the node where it lands times WAY, and what it costs; or NOTHING, which has ABSENT for its node.
-const WAY: u64 = 281474976710656;
-
-const NOTHING: u64 = 18446744073709551615;
+ghost use Rattle.crossing.specs.Parts.{is_open, MachinesOpened, in_opened, OpenedFor, Itself, LandedAbove, Landings};
+ghost use Rattle.crossing.specs.Parts.{leaves, land_move, open_move, HandedAbove, Prepared};
 
 // A move: the node where it leads, ABSENT where there is none, and what it costs.
-#[derive(Drop)]
+#[derive(Clone, Copy)]
 struct Move {
     target: u32,
     price: u64,
@@ -84,10 +77,8 @@ fn itself(lands: &mut [u32])
     requires { length lands.old ≡ nodes }
     ensures { Itself lands.new }
 {
-    let mut v = 0u32;
-    while v < book::NODES {
+    for v in 0..book::NODES {
         lands[v as usize] = v;
-        v += 1;
     }
 }
 
@@ -118,62 +109,6 @@ fn landings(book: &[u32], opened: &[u32], a: u32, b: u32, lands: &mut [u32])
     land_above(book, opened, b, lands);
 }
 
-// The word of what leads to node v at cost c.
-fn way(v: u32, c: u32) -> u64
-    requires { v < nodes }
-    ensures { result ≡ v * way_costs + c }
-{
-    wide(v) * WAY + wide(c)
-}
-
-// `own`, but `inherited` where w is the word for no transition. Both are at hand, so that the choice needs no branch.
-fn unless_none(w: u32, own: u64, inherited: u64) -> u64
-    ensures { result ≡ cond (eqb w blank) inherited own }
-{
-    if w == book::BLANK { inherited } else { own }
-}
-
-// What command x finds from node n of machine m: the transition of n that counts, or else what m inherits. The list `up` has the words of what is
-// inherited taken from NOTHING, so 0 for nothing.
-fn find(book: &[u32], lands: &[u32], up: &[u64], m: u32, n: u32, x: u32) -> u64
-    requires { WellFormed book.now × NodeList lands.now × UpRoom up.now × ((tree_of book.now).owner n ≡ some m) × (x < commands)
-        × MachineRow (tree_of book.now) lands.now up.now m }
-    ensures { way_of result ≡ finds (tree_of book.now) lands.now n x }
-{
-    let w = book::counting(book, n, x);
-    let own = way(lands[(w / 65536 % 256) as usize], w % 65536);
-    let inherited = NOTHING - up[(book::COMMANDS * m + x) as usize];
-    unless_none(w, own, inherited)
-}
-
-// The word w after a machine was left at cost l.
-fn after(w: u64, l: u32) -> u64
-    requires { WayFits w }
-    ensures { way_of result ≡ after l (way_of w) }
-{
-    if w == NOTHING {
-        return w;
-    }
-    w + wide(l)
-}
-
-// Writes what machine m, held by node h, inherits: what every command y finds from h, after m was left. The row of the machine above is written
-// already.
-fn inherit(book: &[u32], lands: &[u32], m: u32, h: u32, up: &mut [u64])
-    requires { WellFormed book.now × NodeList lands.now × UpRoom up.old × ((tree_of book.now).holder m ≡ some h)
-        × OwnerRow (tree_of book.now) lands.now up.old h }
-    ensures { HandedTo (tree_of book.now) lands.now m up.old up.new }
-{
-    let p = book::owner(book, h);
-    let l = book::leave(book, m);
-    let mut y = 0u32;
-    while y < book::COMMANDS {
-        let w = after(find(book, lands, up, p, h, y), l);
-        up[(book::COMMANDS * m + y) as usize] = NOTHING - w;
-        y += 1;
-    }
-}
-
 // Writes what the machine of node n and all above it inherit, from the root down. The root's row is written already.
 fn inherit_above(book: &[u32], lands: &[u32], n: u32, up: &mut [u64])
     requires { WellFormed book.now × NodeList lands.now × UpRoom up.old × UsedNode (tree_of book.now) n
@@ -186,23 +121,23 @@ fn inherit_above(book: &[u32], lands: &[u32], n: u32, up: &mut [u64])
         return;
     }
     inherit_above(book, lands, above, up);
-    inherit(book, lands, m, above, up);
+    inheriting::inherit(book, lands, m, above, up);
 }
 
 // The move of a node with this exit cost from which w is found.
-fn priced(exit: OwnExit, w: u64) -> Move
-    requires { Exits (exit_of exit) exit × WayFits w }
-    ensures { entry_move result.target result.price ≡ leaves (exit_of exit) (way_of w) }
+fn priced(exit: Option<u64>, w: u64) -> Move
+    requires { Exits (value_of exit) exit × WayFits w }
+    ensures { entry_move result.target result.price ≡ leaves (value_of exit) (way_of w) }
 {
     match exit {
-        OwnExit::Costs(e) => {
-            let price = e + w % WAY;
+        Some(e) => {
+            let price = e + w % inheriting::WAY;
             Move {
-                target: (w / WAY) as u32,
+                target: (w / inheriting::WAY) as u32,
                 price,
             }
         }
-        OwnExit::Never => Move {
+        None => Move {
             target: book::ABSENT,
             price: 0,
         },
@@ -226,7 +161,7 @@ fn entry(
     ensures { EntryFilled (land_move (tree_of book.now) (rows_of sheet.now) lands.now n x) n x
         target.old price.old target.new price.new }
 {
-    let w = find(book, lands, up, m, n, x);
+    let w = inheriting::find(book, lands, up, m, n, x);
     let found = priced(sheet::own_exit(book, sheet, n, x), w);
     let i = (book::COMMANDS * n + x) as usize;
     target[i] = found.target;
@@ -249,10 +184,8 @@ fn row(
         target.old price.old target.new price.new }
 {
     let m = book::owner(book, n);
-    let mut x = 0u32;
-    while x < book::COMMANDS {
+    for x in 0..book::COMMANDS {
         entry(book, sheet, lands, up, m, n, x, target, price);
-        x += 1;
     }
 }
 
@@ -295,10 +228,8 @@ fn rows(
     ensures { Tabled (open_move (tree_of book.now) (rows_of sheet.now) (is_open opened.now)) nodes
         target.new price.new }
 {
-    let mut n = 0u32;
-    while n < book::NODES {
+    for n in 0..book::NODES {
         row_if_opened(book, sheet, opened, lands, up, n, target, price);
-        n += 1;
     }
 }
 

@@ -1,9 +1,8 @@
 -- What Exit's answer says by document 01's number and value.
-use Rattle.std.specs.Prelude.{[], ◌∷◌}
-use Rattle.definitions.specs.Answer.{Answer, gives, refuses}
-use Rattle.exiting.specs.declared.ExitAnswer.{ExitAnswer}
-use Rattle.exiting.specs.declared.ExitAnswer.TheVariants.{Costs, Refused}
+use Rattle.std.specs.Prelude.{[], ◌∷◌, ℕ, Result}
+use Rattle.definitions.specs.Answer.{Answer}
+use Rattle.refusals.specs.Meaning.{answered}
+use Rattle.refusals.specs.declared.Refusal.{Refusal}
 
-abbrev pub answer_of : ExitAnswer → Answer
-answer_of (Costs c) = gives (c ∷ [])
-answer_of (Refused k) = refuses k
+abbrev pub answer_of : Result ℕ Refusal → Answer
+answer_of = answered (λ c. c ∷ [])

@@ -149,10 +149,7 @@ fn expand_path(
         (steps_part (node_part depth (tree_of book.now) (rows_of sheet.now)) left.now given.now count) }
 {
     let mut next = at;
-    let mut i = 0u32;
-    while i < count {
-        i += 1;
-        let k = count - i;
+    for k in (0..count).rev() {
         next = expand_node(
             book,
             sheet,

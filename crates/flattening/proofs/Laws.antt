@@ -6,19 +6,18 @@ use mathlib.Core.Option.{Option, none, some}
 use mathlib.Core.List.{List}
 use Prim.Native.Nat.{ℕ, ◌+◌, ◌/◌, ◌%◌, ◌≤◌, ◌<◌}
 use native.Mathlib.Omega.{arith}
-use lib.ListN.{length, set}
-use lib.Seq.{get_or-set_same, get_or-set_other}
+use lib.ListN.{length}
 use Rattle.definitions.specs.Basics.{◌>>=◌}
 use Rattle.definitions.specs.Limits.{machines, nodes}
 use Rattle.definitions.specs.Tree.{Tree, Transition, UsedNode, is_state, level, Sound}
 use Rattle.definitions.specs.Step.{enter, Climb, found, passed, climb, Arrival, follow, step_in, step}
-use Rattle.definitions.proofs.Options.{none_some, equal_or_not, less_or_not}
+use Rattle.definitions.proofs.Options.{none_some, less_or_not}
 use Rattle.definitions.proofs.Path.{deep, path_root, level_on, level_deep, enter_enters, enters_state, climb_found}
 use Rattle.search.specs.Search.{entry_move}
 use Rattle.search.specs.Parts.{at}
 use Rattle.search.specs.Tables.{BlankRow, RowFilled}
 use Rattle.stepping.proofs.Laws.{top_root}
-use Rattle.inheriting.specs.Inheriting.{way_costs, way_of, landed, finds, MachineRow, RootRow, HandedTo}
+use Rattle.inheriting.specs.Inheriting.{way_costs, way_of, landed, finds, MachineRow, RootRow}
 use Rattle.inheriting.proofs.Inheriting.{finds_fits, way_entry}
 use Rattle.flattening.specs.Flattening.{EnteredAt, Entered, LevelRows, HeldAt, HandedAt, flat_move}
 
@@ -32,13 +31,6 @@ pub entered_on : {t : Tree} → Sound t → (n : ℕ) {r : ℕ} → UsedNode t n
 entered_on s n {r} (m, own) e =
     let (p, owned, plain) = enters_state s (enter_enters s own e) own in
     record { small = s.node_range r p owned; says = λ used. e }
-
--- one number more
-pub entered_more : (t : Tree) (lands : List ℕ) {k r : ℕ} → length lands ≡ nodes → k < nodes → ((v : ℕ) → v < k → EnteredAt t v (at lands v))
-    → EnteredAt t k r → (v : ℕ) → v < k + 1 → EnteredAt t v (at (set lands k r) v)
-entered_more t lands {k} {r} room small first here v less =
-    ⊎_elim (λ (same : v ≡ k). rw (same, get_or-set_same lands k r 0 (omega arith)) here)
-    (λ (apart : v ≡ k → ⊥). rw (get_or-set_other lands k v r 0 apart) (first v (omega arith))) (equal_or_not v k)
 
 -- ---- what the machines inherit
 
@@ -69,24 +61,6 @@ module _ {t : Tree} {lands : List ℕ} {l : ℕ} where
   pub handed_off : (m : ℕ) (up : List ℕ) → (HeldAt t l m → ⊥) → HandedAt t lands l (λ p. p ≡ m) up up
   handed_off m up off =
       record { told = λ p x range (same, at_it). absurd (off (subst (HeldAt t l) same at_it)); kept = λ p x range e. e }
-
-  -- a machine has its row
-  pub handed_one : (m : ℕ) {up new : List ℕ} → HandedTo t lands m up new → HandedAt t lands l (λ p. p ≡ m) up new
-  handed_one m handed = record { told = λ p x range (same, at_it). handed.told p x range same; kept = handed.kept }
-
-  -- machine by machine
-  pub handed_start : (up : List ℕ) → HandedAt t lands l (λ p. p < 0) up up
-  handed_start up = record { told = λ p x range (small, at_it). absurd (omega (arith, small)); kept = λ p x range e. e }
-
-  pub handed_next : {m : ℕ} {up mid new : List ℕ} → HandedAt t lands l (λ p. p < m) up mid → HandedAt t lands l (λ p. p ≡ m) mid new
-      → HandedAt t lands l (λ p. p < m + 1) up new
-  handed_next {m} first last =
-      record {
-        told = λ p x range (small, at_it).
-            ⊎_elim (λ (same : p ≡ m). last.told p x range (same, at_it))
-            (λ (apart : p ≡ m → ⊥). last.kept p x range (first.told p x range (omega (arith, small, apart), at_it))) (equal_or_not p m);
-        kept = λ p x range e. last.kept p x range (first.kept p x range e);
-      }
 
   -- the rows that were written stay
   pub level_kept : {Told : ℕ → Type 0} {up new : List ℕ} → LevelRows t lands up l → HandedAt t lands l Told up new → LevelRows t lands new l

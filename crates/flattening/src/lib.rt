@@ -27,10 +27,8 @@ fn entered(book: &[u32], lands: &mut [u32])
     requires { WellFormed book.now × (length lands.old ≡ nodes) }
     ensures { Entered (tree_of book.now) lands.new }
 {
-    let mut n = 0u32;
-    while n < book::NODES {
+    for n in 0..book::NODES {
         lands[n as usize] = entered_at(book, n);
-        n += 1;
     }
 }
 
@@ -55,10 +53,8 @@ fn inherit_level(book: &[u32], lands: &[u32], l: u32, up: &mut [u64])
     requires { WellFormed book.now × NodeList lands.now × UpRoom up.old × (1 ≤ l) × LevelRows (tree_of book.now) lands.now up.old l }
     ensures { LevelRows (tree_of book.now) lands.now up.new (l + 1) }
 {
-    let mut m = 0u32;
-    while m < book::MACHINES {
+    for m in 0..book::MACHINES {
         inherit_at(book, lands, l, m, up);
-        m += 1;
     }
 }
 
@@ -67,10 +63,8 @@ fn inherit_all(book: &[u32], lands: &[u32], up: &mut [u64])
     requires { WellFormed book.now × NodeList lands.now × UpRoom up.old × RootRow (tree_of book.now) lands.now up.old }
     ensures { LevelRows (tree_of book.now) lands.now up.new levels }
 {
-    let mut l = 1u32;
-    while l < 8 {
+    for l in 1..book::LEVELS {
         inherit_level(book, lands, l, up);
-        l += 1;
     }
 }
 
@@ -104,10 +98,8 @@ fn row(book: &[u32], lands: &[u32], up: &[u64], n: u32, target: &mut [u32], pric
         target.old price.old target.new price.new }
 {
     let m = book::owner(book, n);
-    let mut x = 0u32;
-    while x < book::COMMANDS {
+    for x in 0..book::COMMANDS {
         entry(book, lands, up, m, n, x, target, price);
-        x += 1;
     }
 }
 
@@ -139,10 +131,8 @@ fn rows(book: &[u32], lands: &[u32], up: &[u64], target: &mut [u32], price: &mut
         × TableRoom target.old price.old × ((n : ℕ) → n < nodes → BlankRow n target.old price.old) }
     ensures { Tabled (flat_move (tree_of book.now)) nodes target.new price.new }
 {
-    let mut n = 0u32;
-    while n < book::NODES {
+    for n in 0..book::NODES {
         row_if_state(book, lands, up, n, target, price);
-        n += 1;
     }
 }
 

@@ -1,6 +1,9 @@
 -- The public calls as C sees them: the number is returned, and what an answer gives is stored through pointers.
-use Rattle.std.specs.Prelude.{◌≡◌, cond, List, [], ◌∷◌, ℕ, zero, suc, eqb, drop, Float}
+use Rattle.std.specs.Prelude.{◌≡◌, cond, List, [], ◌∷◌, ℕ, zero, suc, eqb, drop, Float, Some, None}
 use Rattle.std.proofs.Math.Option.{Option, none, some}
+use Rattle.std.specs.Prelude as core
+use Rattle.importing.specs.declared.Reading as read
+use Rattle.importing.specs.declared.Reading.TheVariants.{Taken, Waited}
 use Rattle.definitions.specs.Answer.{Answer, gives, refuses, wants, InOrder}
 use Rattle.definitions.specs.Calls.{LoadSays, ExitSays, StepSays, PlanSays}
 use Rattle.definitions.specs.Write.{WriteSays}
@@ -73,6 +76,12 @@ ChooseReturns book a b one two list used number list' used' =
 -- the import of a reading: the number and the length, by the answer that document 02 gives (W-203)
 abbrev pub TimingReturns : (n x v : ℕ) (reading : Reading) (dead : Float) (out : List ℕ) (size number : ℕ) (out' : List ℕ) (size' : ℕ) → Type 0
 TimingReturns n x v reading dead out = ListReturns (ImportSays n x v reading dead out)
+
+-- a reading of the library, if there is one
+abbrev pub given_reading : core.Option read.Reading → Option Reading
+given_reading (Some (Taken seconds)) = some (took seconds)
+given_reading (Some (Waited seconds)) = some (waited seconds)
+given_reading None = none
 
 -- the reading that a kind and its seconds are: 0 seconds taken, 1 seconds waited without an end
 abbrev pub reading_as : ℕ → Float → Option Reading

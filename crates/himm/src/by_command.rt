@@ -8,12 +8,14 @@ ghost use Rattle.definitions.specs.Walk.{OpenWalkersSay};
 ghost use Rattle.definitions.specs.ByCommand.{by_command, by_node, TurnSays};
 ghost use Rattle.himm.specs.Exports.{LoadReturns, ExitReturns, StepReturns, PlanReturns, WriteReturns, ChooseReturns, WalkReturns};
 
+use crate::store;
+
 // Turns a book by node into one by command. Refuses 1.
 #[unsafe(no_mangle)]
 pub extern "C" fn himm_by_command(book: &[u32], out: &mut [u32]) -> u32
     ensures { TurnSays by_command book.now out.old result out.new }
 {
-    turning::by_command(book, out)
+    store::number(turning::by_command(book, out))
 }
 
 // Turns a book by command into one by node. Refuses 1.
@@ -21,7 +23,7 @@ pub extern "C" fn himm_by_command(book: &[u32], out: &mut [u32]) -> u32
 pub extern "C" fn himm_by_node(book: &[u32], out: &mut [u32]) -> u32
     ensures { TurnSays by_node book.now out.old result out.new }
 {
-    turning::by_node(book, out)
+    store::number(turning::by_node(book, out))
 }
 
 // Open fresh.
@@ -29,7 +31,7 @@ pub extern "C" fn himm_by_node(book: &[u32], out: &mut [u32]) -> u32
 pub extern "C" fn himm_open_fresh_by_command(book: &mut [u32], sheet: &mut [u32]) -> u32
     ensures { OpenSays fresh (by_node book.old) sheet.old result (by_node book.new) sheet.new }
 {
-    bycommand::open_fresh(book, sheet)
+    store::number(bycommand::open_fresh(book, sheet))
 }
 
 // Open ladder.
@@ -37,7 +39,7 @@ pub extern "C" fn himm_open_fresh_by_command(book: &mut [u32], sheet: &mut [u32]
 pub extern "C" fn himm_open_ladder_by_command(book: &mut [u32], sheet: &mut [u32]) -> u32
     ensures { OpenSays ladder (by_node book.old) sheet.old result (by_node book.new) sheet.new }
 {
-    bycommand::open_ladder(book, sheet)
+    store::number(bycommand::open_ladder(book, sheet))
 }
 
 // Open from a table.
@@ -50,7 +52,7 @@ pub extern "C" fn himm_open_table_by_command(
     ensures { OpenSays (table rows.now) (by_node book.old) sheet.old result
         (by_node book.new) sheet.new }
 {
-    bycommand::open_table(rows, book, sheet)
+    store::number(bycommand::open_table(rows, book, sheet))
 }
 
 // Merge: all three books are by command.
@@ -64,7 +66,7 @@ pub extern "C" fn himm_merge_by_command(
     ensures { MergeSays (by_node first.now) (by_node second.now) (by_node book.old) sheet.old result
         (by_node book.new) sheet.new }
 {
-    bycommand::merge(first, second, book, sheet)
+    store::number(bycommand::merge(first, second, book, sheet))
 }
 
 // Load.
@@ -79,10 +81,7 @@ pub extern "C" fn himm_load_by_command(
     ensures { LoadReturns (by_node book.old) sheet.old stream.now result
         bytes.new commands.new (by_node book.new) sheet.new }
 {
-    let loaded = bycommand::load(book, sheet, stream);
-    *bytes = loaded.bytes as u64;
-    *commands = loaded.commands as u64;
-    loaded.number
+    store::loaded(bycommand::load(book, sheet, stream), bytes, commands)
 }
 
 // Exit.
@@ -96,7 +95,7 @@ pub extern "C" fn himm_exit_by_command(
 ) -> u32
     ensures { ExitReturns (by_node book.now) sheet.now machine command cost.old result cost.new }
 {
-    super::store::exit(bycommand::exit(book, sheet, machine, command), cost)
+    store::word(bycommand::exit(book, sheet, machine, command), cost)
 }
 
 // Step.
@@ -112,7 +111,7 @@ pub extern "C" fn himm_step_by_command(
     ensures { StepReturns (by_node book.now) state command next.old cost.old node.old result
         next.new cost.new node.new }
 {
-    super::store::step(bycommand::step(book, state, command), next, cost, node)
+    store::step(bycommand::step(book, state, command), next, cost, node)
 }
 
 // Plan.
@@ -129,7 +128,7 @@ pub extern "C" fn himm_plan_by_command(
     ensures { PlanReturns (by_node book.now) sheet.now from to plan.old cost.old count.old result
         plan.new cost.new count.new }
 {
-    super::store::plan(bycommand::plan(book, sheet, from, to, plan), cost, count)
+    store::plan(bycommand::plan(book, sheet, from, to, plan), cost, count)
 }
 
 // Write.
@@ -137,7 +136,7 @@ pub extern "C" fn himm_plan_by_command(
 pub extern "C" fn himm_write_by_command(book: &[u32], out: &mut [u8], length: &mut u32) -> u32
     ensures { WriteReturns (by_node book.now) out.old length.old result out.new length.new }
 {
-    super::store::written(bycommand::write(book, out), length)
+    store::word(bycommand::write(book, out), length)
 }
 
 // Choose.
@@ -154,7 +153,7 @@ pub extern "C" fn himm_choose_by_command(
     ensures { ChooseReturns (by_node book.now) from to first.now second.now which.old used.old result
         which.new used.new }
 {
-    super::store::chosen(
+    store::chosen(
         bycommand::choice(book, from, to, first, second),
         which,
         used,
@@ -171,7 +170,7 @@ pub extern "C" fn himm_walkers_by_command(
 ) -> u32
     ensures { OpenWalkersSay (by_node book.now) node limit «walkers».now result }
 {
-    bycommand::open_walkers(book, node, limit, walkers)
+    store::number(bycommand::open_walkers(book, node, limit, walkers))
 }
 
 // A walker command.
@@ -189,7 +188,7 @@ pub extern "C" fn himm_walk_by_command(
     ensures { WalkReturns (by_node book.now) node limit «walkers».old walker command cost.old acted.old result
         «walkers».new cost.new acted.new }
 {
-    super::store::walked(
+    store::walked(
         bycommand::walk(book, node, limit, walkers, walker, command),
         cost,
         acted,

@@ -2,14 +2,16 @@
 // nothing (Load's two counts are always stored). A list passes as a pointer and its length.
 #![tactic(auto)]
 
+ghost use Rattle.std.specs.Prelude.{◌≡◌};
 ghost use Rattle.definitions.specs.Open.{fresh, ladder, table};
 ghost use Rattle.definitions.specs.Calls.{OpenSays};
 ghost use Rattle.definitions.specs.Merge.{MergeSays};
 ghost use Rattle.definitions.specs.Walk.{OpenWalkersSay};
-ghost use Rattle.himm.specs.Exports.{LoadReturns, LadderReturns, ExitReturns, StepReturns, PlanReturns, WriteReturns, ChooseReturns, TimingReturns, ImportReturns, WalkReturns};
-ghost use Rattle.importing.specs.Meaning.{reading_of};
+ghost use Rattle.himm.specs.Exports.{reading_as, given_reading};
+ghost use Rattle.himm.specs.Exports.{LoadReturns, LadderReturns, ExitReturns, StepReturns, PlanReturns, WriteReturns, ChooseReturns, ImportReturns, WalkReturns};
 
 use importing::{Reading, Timing};
+use refusals::Refusal;
 
 mod by_command;
 mod store;
@@ -19,7 +21,7 @@ mod store;
 pub extern "C" fn himm_open_fresh(book: &mut [u32], sheet: &mut [u32]) -> u32
     ensures { OpenSays fresh book.old sheet.old result book.new sheet.new }
 {
-    opening::open_fresh(book, sheet)
+    store::number(opening::open_fresh(book, sheet))
 }
 
 // Open ladder: the 63 machines of the ladder. Refuses 1.
@@ -27,7 +29,7 @@ pub extern "C" fn himm_open_fresh(book: &mut [u32], sheet: &mut [u32]) -> u32
 pub extern "C" fn himm_open_ladder(book: &mut [u32], sheet: &mut [u32]) -> u32
     ensures { OpenSays ladder book.old sheet.old result book.new sheet.new }
 {
-    opening::open_ladder(book, sheet)
+    store::number(opening::open_ladder(book, sheet))
 }
 
 // Open from a table: the tree of a lent table's rows (owner, machine below, start) in place of the ladder's. Refuses 1, 2.
@@ -35,7 +37,7 @@ pub extern "C" fn himm_open_ladder(book: &mut [u32], sheet: &mut [u32]) -> u32
 pub extern "C" fn himm_open_table(rows: &[u32], book: &mut [u32], sheet: &mut [u32]) -> u32
     ensures { OpenSays (table rows.now) book.old sheet.old result book.new sheet.new }
 {
-    ladders::open_table(rows, book, sheet)
+    store::number(ladders::open_table(rows, book, sheet))
 }
 
 // The rows of the ladder of a depth at the front of out, and how many numbers they have. Refuses 24, 15.
@@ -43,7 +45,7 @@ pub extern "C" fn himm_open_table(rows: &[u32], book: &mut [u32], sheet: &mut [u
 pub extern "C" fn himm_ladder(depth: u32, out: &mut [u32], length: &mut u32) -> u32
     ensures { LadderReturns depth out.old length.old result out.new length.new }
 {
-    store::rows(ladders::ladder(depth, out), length)
+    store::word(ladders::ladder(depth, out), length)
 }
 
 // Merge: a third book and its sheet from two books, a new root above both. Refuses 1, 2 (the first book), 2 (the second), 12, 19.
@@ -57,7 +59,7 @@ pub extern "C" fn himm_merge(
     ensures { MergeSays first.now second.now book.old sheet.old result
         book.new sheet.new }
 {
-    merging::merge(first, second, book, sheet)
+    store::number(merging::merge(first, second, book, sheet))
 }
 
 // Load: does the commands of a stream up to its end or the first that is refused. Refuses 1, 2, 3, then at a command 4 to 12 or 21.
@@ -72,10 +74,7 @@ pub extern "C" fn himm_load(
     ensures { LoadReturns book.old sheet.old stream.now result
         bytes.new commands.new book.new sheet.new }
 {
-    let loaded = loading::load(book, sheet, stream);
-    *bytes = loaded.bytes as u64;
-    *commands = loaded.commands as u64;
-    loaded.number
+    store::loaded(loading::load(book, sheet, stream), bytes, commands)
 }
 
 // Exit: the exit cost of a machine for a command. Refuses 1, 2, 3, 6, 7, 13, 16.
@@ -89,7 +88,7 @@ pub extern "C" fn himm_exit(
 ) -> u32
     ensures { ExitReturns book.now sheet.now machine command cost.old result cost.new }
 {
-    store::exit(exiting::exit(book, sheet, machine, command), cost)
+    store::word(exiting::exit(book, sheet, machine, command), cost)
 }
 
 // Step: the state that a command leads to, its cost, and the node whose transition was used. Refuses 1, 2, 6, 7, 14, 17.
@@ -131,7 +130,7 @@ pub extern "C" fn himm_plan(
 pub extern "C" fn himm_write(book: &[u32], out: &mut [u8], length: &mut u32) -> u32
     ensures { WriteReturns book.now out.old length.old result out.new length.new }
 {
-    store::written(writing::write(book, out), length)
+    store::word(writing::write(book, out), length)
 }
 
 // Choose: which of two lists is the cheaper one from a state to another (0 the first, 1 the second), and how many of its commands are
@@ -152,22 +151,15 @@ pub extern "C" fn himm_choose(
     store::chosen(choosing::choice(book, from, to, first, second), which, used)
 }
 
-// Stores what the import of a timing gives.
-fn import(
-    node: u32,
-    command: u32,
-    target: u32,
-    timing: Timing,
-    out: &mut [u8],
-    length: &mut u32,
-) -> u32
-    ensures { TimingReturns node command target (reading_of timing.reading) timing.dead_time out.old length.old result
-        out.new length.new }
+// The reading of a kind: 0 seconds taken, 1 seconds waited without an end.
+fn reading(kind: u32, seconds: f32) -> Option<Reading>
+    ensures { given_reading result ≡ reading_as kind seconds }
 {
-    store::imported(
-        importing::import(node, command, target, timing, out),
-        length,
-    )
+    match kind {
+        0 => Some(Reading::Taken(seconds)),
+        1 => Some(Reading::Waited(seconds)),
+        _ => None,
+    }
 }
 
 // Import: the bytes of the stream command that a timing stands for at the front of out, and their length. The reading is seconds taken (kind 0)
@@ -186,21 +178,14 @@ pub extern "C" fn himm_import(
     ensures { ImportReturns node command target kind seconds dead_time out.old length.old result
         out.new length.new }
 {
-    if kind == 0 {
-        let taken = Timing {
-            reading: Reading::Taken(seconds),
-            dead_time: dead_time,
-        };
-        return import(node, command, target, taken, out, length);
-    }
-    if kind == 1 {
-        let waited = Timing {
-            reading: Reading::Waited(seconds),
-            dead_time: dead_time,
-        };
-        return import(node, command, target, waited, out, length);
-    }
-    6
+    let Some(reading) = reading(kind, seconds) else {
+        return Refusal::OutOfRange.number();
+    };
+    let timing = Timing { reading, dead_time };
+    store::word(
+        importing::import(node, command, target, timing, out),
+        length,
+    )
 }
 
 // The opening of walkers, each at its state: at most limit of them may be inside the node. Nothing is written. Refuses 1, 2, 23, 6, 7, 14, 23.
@@ -208,7 +193,7 @@ pub extern "C" fn himm_import(
 pub extern "C" fn himm_walkers(book: &[u32], node: u32, limit: u32, walkers: &[u32]) -> u32
     ensures { OpenWalkersSay book.now node limit «walkers».now result }
 {
-    walking::open_walkers(book, node, limit, walkers)
+    store::number(walking::open_walkers(book, node, limit, walkers))
 }
 
 // A walker command: the walker's state becomes the one that the command leads to; its cost, and the node whose transition was used. Refuses as

@@ -2,111 +2,62 @@
 // refusal with the bytes lent for the output; and the bytes loaded into a book, where a step tells the transition.
 #![tactic(auto)]
 
-use importing::{ImportAnswer, Reading, Timing};
-use stepping::StepAnswer;
-
-// The descriptor of standard output.
-const STDOUT_FILENO: i32 = 1;
+use importing::{Reading, Timing};
+use refusals::Refusal;
+use stepping::Moved;
+use trying::{front, front_mut, number, numbers, say_no, status, text};
 
 // A book and a sheet.
 type Book = [u32; book::BOOK];
 
 type Sheet = [u32; sheet::SHEET];
 
-// Writes a space and a number.
-fn number(n: u64) {
-    io::write_all(STDOUT_FILENO, b" ");
-    io::print_decimal(STDOUT_FILENO, n);
-}
-
-// The number in 64 bits.
-fn wide(n: usize) -> u64 {
-    n as u64
-}
-
 // Writes a text and a colon.
-fn label(text: &[u8]) {
-    io::write_all(STDOUT_FILENO, text);
-    io::write_all(STDOUT_FILENO, b":");
-}
-
-// Writes a space and a byte.
-fn byte(b: u8) {
-    number(b as u64);
+fn label(t: &[u8]) {
+    text(t);
+    text(b":");
 }
 
 // Writes every byte of a list, and ends the line.
 fn show_bytes(list: &[u8]) {
-    let mut i = 0usize;
-    while i < list.len() {
-        byte(list[i]);
-        i += 1;
-    }
-    io::write_all(STDOUT_FILENO, b"\n");
+    numbers(list);
+    text(b"\n");
 }
 
 // Writes what the import answered: how many bytes it wrote, or `no` and the refusal.
-fn show_answer(answer: ImportAnswer) {
+fn show_answer(answer: Result<u32, Refusal>) {
     match answer {
-        ImportAnswer::Written(n) => number(n as u64),
-        ImportAnswer::Refused(k) => {
-            io::write_all(STDOUT_FILENO, b" no");
-            number(k as u64);
-        }
+        Ok(n) => number(n),
+        Err(refusal) => say_no(refusal),
     }
 }
 
 // Imports a timing for node 1, command 1 and target 2 into so many bytes of a list, and writes the answer and the whole list.
-fn import_front(text: &[u8], timing: Timing, out: &mut [u8], room: usize) {
-    if out.len() < room {
-        return;
-    }
-    label(text);
-    show_answer(importing::import(1, 1, 2, timing, &mut out[..room]));
+fn import_front(t: &[u8], timing: Timing, out: &mut [u8], room: usize) {
+    label(t);
+    show_answer(importing::import(1, 1, 2, timing, front_mut(out, room)));
     show_bytes(out);
 }
 
-// The same with nine bytes that hold 7.
-fn show(text: &[u8], timing: Timing, room: usize) {
+// The same for a reading and a dead time, with nine bytes that hold 7.
+fn show(t: &[u8], reading: Reading, dead_time: f32, room: usize) {
     let mut out = [7u8; 9];
-    import_front(text, timing, &mut out, room);
+    import_front(t, Timing { reading, dead_time }, &mut out, room);
 }
 
 // Seconds taken and a dead time, with room for all bytes.
-fn took(text: &[u8], seconds: f32, dead_time: f32) {
-    let timing = Timing {
-        reading: Reading::Taken(seconds),
-        dead_time: dead_time,
-    };
-    show(text, timing, 9);
-}
-
-// A wait without an end, with so much room.
-fn waited(text: &[u8], seconds: f32, dead_time: f32, room: usize) {
-    let timing = Timing {
-        reading: Reading::Waited(seconds),
-        dead_time: dead_time,
-    };
-    show(text, timing, room);
-}
-
-// Five seconds taken, with so much room.
-fn five(text: &[u8], room: usize) {
-    let timing = Timing {
-        reading: Reading::Taken(5.0),
-        dead_time: 0.0,
-    };
-    show(text, timing, room);
+fn took(t: &[u8], seconds: f32, dead_time: f32) {
+    show(t, Reading::Taken(seconds), dead_time, 9);
 }
 
 // A reading and a dead time of zero, with room for one byte, for a node, a command and a target.
-fn numbers(text: &[u8], node: u32, command: u32, target: u32, reading: Reading) {
+fn show_for(t: &[u8], node: u32, command: u32, target: u32, reading: Reading) {
     let mut out = [7u8; 1];
     let timing = Timing {
-        reading: reading,
+        reading,
         dead_time: 0.0,
     };
-    label(text);
+    label(t);
     show_answer(importing::import(node, command, target, timing, &mut out));
     show_bytes(&out);
 }
@@ -151,18 +102,23 @@ fn refused(zero: f32) {
 
 // Waits are not judged; room to the byte; 6 before 20 before 15, also for a wait.
 fn rooms(zero: f32) {
-    waited(b"a wait", 60.0, 0.25, 9);
-    waited(b"a wait of no number", zero / zero, -1.0 / zero, 9);
-    waited(b"4 bytes for a wait", 60.0, 0.25, 4);
-    waited(b"3 bytes for a wait", 60.0, 0.25, 3);
-    five(b"8 bytes", 8);
-    five(b"7 bytes", 7);
     let none = zero / zero;
-    numbers(b"numbers in range", 255, 15, 255, Reading::Taken(none));
-    numbers(b"node 256", 256, 15, 255, Reading::Taken(none));
-    numbers(b"command 16", 255, 16, 255, Reading::Taken(none));
-    numbers(b"target 256", 255, 15, 256, Reading::Taken(none));
-    numbers(
+    show(b"a wait", Reading::Waited(60.0), 0.25, 9);
+    show(
+        b"a wait of no number",
+        Reading::Waited(none),
+        -1.0 / zero,
+        9,
+    );
+    show(b"4 bytes for a wait", Reading::Waited(60.0), 0.25, 4);
+    show(b"3 bytes for a wait", Reading::Waited(60.0), 0.25, 3);
+    show(b"8 bytes", Reading::Taken(5.0), 0.0, 8);
+    show(b"7 bytes", Reading::Taken(5.0), 0.0, 7);
+    show_for(b"numbers in range", 255, 15, 255, Reading::Taken(none));
+    show_for(b"node 256", 256, 15, 255, Reading::Taken(none));
+    show_for(b"command 16", 255, 16, 255, Reading::Taken(none));
+    show_for(b"target 256", 255, 15, 256, Reading::Taken(none));
+    show_for(
         b"target 256 for a wait",
         255,
         15,
@@ -171,65 +127,70 @@ fn rooms(zero: f32) {
     );
 }
 
-// Imports a timing for node 1, command 1 and target 2, loads the bytes, and writes what the load took and the step of 11 by 1.
-fn load_timing(text: &[u8], book: &mut Book, sheet: &mut Sheet, timing: Timing) {
+// Imports a reading for node 1, command 1 and target 2, loads the bytes, and writes what the load took and the step of 11 by 1.
+fn load_timing(t: &[u8], book: &mut Book, sheet: &mut Sheet, reading: Reading) {
     let mut out = [0u8; 8];
-    label(text);
+    let timing = Timing {
+        reading,
+        dead_time: 0.25,
+    };
+    label(t);
     match importing::import(1, 1, 2, timing, &mut out) {
-        ImportAnswer::Written(n) => show_loaded(book, sheet, &out, n as usize),
-        ImportAnswer::Refused(k) => number(k as u64),
+        Ok(n) => show_loaded(book, sheet, &out, n as usize),
+        Err(refusal) => number(refusal.number()),
     }
-    match stepping::step(book, 11, 1) {
-        StepAnswer::Moved { state, cost, node } => {
-            number(state as u64);
-            number(cost as u64);
-            number(node as u64);
-        }
-        StepAnswer::Refused(k) => {
-            io::write_all(STDOUT_FILENO, b" no");
-            number(k as u64);
-        }
-    }
-    io::write_all(STDOUT_FILENO, b"\n");
+    show_step(stepping::step(book, 11, 1));
+    text(b"\n");
 }
 
-// Loads the front of a stream and writes the bytes taken, the commands taken and the refusal.
-fn show_loaded(book: &mut Book, sheet: &mut Sheet, stream: &[u8], count: usize) {
-    if stream.len() < count {
-        return;
+// Writes what a step answered: state, cost and node, or `no` and the refusal.
+fn show_step(answer: Result<Moved, Refusal>) {
+    match answer {
+        Ok(Moved { state, cost, node }) => {
+            number(state);
+            number(cost);
+            number(node);
+        }
+        Err(refusal) => say_no(refusal),
     }
-    let answer = loading::load(book, sheet, &stream[..count]);
-    number(wide(answer.bytes));
-    number(wide(answer.commands));
-    number(answer.number as u64);
+}
+
+// Loads the front of a stream and writes the bytes taken, the commands taken and the number of the refusal, or 0.
+fn show_loaded(book: &mut Book, sheet: &mut Sheet, stream: &[u8], count: usize) {
+    let answer = loading::load(book, sheet, front(stream, count));
+    number(answer.bytes as u64);
+    number(answer.commands as u64);
+    number(status(answer.refusal));
 }
 
 // The mast book's machines and nodes, with the transition of 1 for 1 imported, imported anew, and waited for without an end.
 fn loads() {
     let mut book = [0u32; book::BOOK];
     let mut sheet = [0u32; sheet::SHEET];
-    opening::open_fresh(&mut book, &mut sheet);
+    let _ = opening::open_fresh(&mut book, &mut sheet);
     loading::load(
         &mut book,
         &mut sheet,
         b"\x11\x00\x00\x01\x11\x00\x00\x02\x12\x00\x01\x01\x00\x0A\x11\x01\x00\x0B",
     );
-    let dead_time = 0.25;
-    let long = Timing {
-        reading: Reading::Taken(8.5),
-        dead_time: dead_time,
-    };
-    load_timing(b"8 and 1/2 seconds loaded", &mut book, &mut sheet, long);
-    let short = Timing {
-        reading: Reading::Taken(3.25),
-        dead_time: dead_time,
-    };
-    load_timing(b"3 and 1/4 seconds loaded", &mut book, &mut sheet, short);
-    let wait = Timing {
-        reading: Reading::Waited(60.0),
-        dead_time: dead_time,
-    };
-    load_timing(b"a wait loaded", &mut book, &mut sheet, wait);
+    load_timing(
+        b"8 and 1/2 seconds loaded",
+        &mut book,
+        &mut sheet,
+        Reading::Taken(8.5),
+    );
+    load_timing(
+        b"3 and 1/4 seconds loaded",
+        &mut book,
+        &mut sheet,
+        Reading::Taken(3.25),
+    );
+    load_timing(
+        b"a wait loaded",
+        &mut book,
+        &mut sheet,
+        Reading::Waited(60.0),
+    );
 }
 
 fn main() {

@@ -1,5 +1,5 @@
 -- Floats that are finite and not below zero, compared with whole numbers: as the fractions that they are. Assumes nothing.
-use Rattle.std.proofs.Common.{◌≡◌, ℕ, ◌+◌, ◌*◌, ◌<◌, ◌≤◌, true, false, ◌&&◌, ◌||◌, eqb, ltb, leb, ◌⊎◌, ℤ, pos, sym, refl, ap, ◌∙◌, inl, inr, ⊎_elim, true≢false, mul-le-mul_right, eq-zero-or-pos, eq-or-lt_of_le, mul-lt-mul_of_pos_right, mul-pos, zero-mul, mul-one, mul_right_comm, arith, le-ltb, lt-ltb, eq-eqb, ne_eqb, eqb-true, le-leb, leb-true}
+use Rattle.std.proofs.Common.{◌≡◌, ℕ, ◌+◌, ◌*◌, ◌<◌, ◌≤◌, Bool, true, false, ◌&&◌, ◌||◌, eqb, ltb, leb, ◌⊎◌, ℤ, pos, sym, refl, ap, ◌∙◌, inl, inr, ⊎_elim, true≢false, mul-le-mul_right, eq-zero-or-pos, eq-or-lt_of_le, mul-lt-mul_of_pos_right, mul-pos, zero-mul, mul-one, mul_right_comm, arith, le-ltb, lt-ltb, eq-eqb, ne_eqb, eqb-true, le-leb, leb-true}
 use lib.Ieee.{Float, nan, inf, fin, up, down, sub, lt, le}
 use lib.Ieee.Fits.{up_pos, down_pos}
 use lib.Ieee.Exact.{HasValue}
@@ -162,3 +162,11 @@ admitted_compared s d (seconds, dead, rest, top) = (
   zero_at_most (difference s d) rest,
   at_most (difference s d) top_float 65535 rest (refl, refl) ∙ le-leb (num (difference s d)) (65535 * den (difference s d)) top,
 )
+
+-- ---- what the value of `a && b` tells
+
+pub and_both : {a b v : Bool} → a ≡ true → v ≡ b → v ≡ (a && b)
+and_both e f = rw e f
+
+pub and_first : {a v : Bool} (b : Bool) → a ≡ false → v ≡ a → v ≡ (a && b)
+and_first b e f = rw e (f ∙ e)

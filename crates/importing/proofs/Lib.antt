@@ -1,3 +1,2 @@
 pub mod Floats
 pub mod Rounding
-pub mod Refusals

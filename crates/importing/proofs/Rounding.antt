@@ -1,13 +1,17 @@
 -- Rounding up: a float that is at least zero, without its fraction, and the least whole number not below it. Assumes nothing.
-use Rattle.std.proofs.Common.{◌≡◌, ℕ, ◌+◌, ◌-◌, ◌*◌, ◌/◌, ◌^◌, ◌<◌, ◌≤◌, true, false, T, ltb, pos, sym, ◌∙◌, lt_of_lt_of_le, div-lt_iff_lt-mul, add-mul, lt_of_mul-lt-mul_right, mul-one, div-mul-le_self, le_of_mul-le-mul_right, arith, lt→ltb, pow_mono, shl_lt, ltb-false, ltb-true}
-use mathlib.Core.Option.{some}
+use Rattle.std.proofs.Common.{◌≡◌, ℕ, ◌+◌, ◌*◌, ◌/◌, ◌^◌, ◌<◌, ◌≤◌, true, false, T, ltb, pos, sym, ◌∙◌, ⊎_elim, lt_of_lt_of_le, div-lt_iff_lt-mul, add-mul, lt_of_mul-lt-mul_right, mul-one, div-mul-le_self, le_of_mul-le-mul_right, arith, lt→ltb, pow_mono, shl_lt, ltb-false, ltb-true}
+use mathlib.Core.Path.{refl}
+use mathlib.Core.Option.{Option, none, some}
+use lib.ListN.{length}
 use native.Mathlib.Nat.{zero-div, lt-div-mul-add}
 use lib.Ieee.{Float, nan, inf, fin, binary64, up, down, lt, to_unsigned, of_int}
 use lib.Ieee.Fits.{down_pos}
 use lib.Ieee.Exact.{HasValue, round_exact}
 use lib.Ieee.Positive.{num, den, den_pos}
 use Rattle.definitions.specs.Basics.{Least}
-use Rattle.definitions.specs.Import.{AtLeastZero, NotBelow}
+use Rattle.definitions.specs.Tree.{Transition}
+use Rattle.definitions.specs.Import.{Reading, took, waited, difference, AtLeastZero, NotBelow, Timed, setting_bytes}
+use Rattle.definitions.proofs.Options.{less_or_not}
 use Rattle.importing.proofs.Floats.{minus_zero, below_it}
 
 -- ---- where the fraction may be dropped: above -1 and below 2 ^ 64
@@ -75,3 +79,23 @@ module _ (x : Float) (k : ℕ) (h : AtLeastZero x) (top : NotBelow x 65535) (is 
   round_here e =
       let enough : num x ≤ k * den x = ltb-false (k * den x) (num x) (sym compared ∙ e) in
       rw whole (least_here (num x) (den x) (den_pos x) (rw whole at enough))
+
+-- there is a least whole number not below a float
+pub least_there : (x : Float) → (c : ℕ) × Least (NotBelow x) (some c)
+least_there x =
+    let n = num x in
+    let d = den x in
+    ⊎_elim (λ short. (_, least_next n d (den_pos x) short)) (λ enough. (_, least_here n d (den_pos x) enough)) (less_or_not (n / d * d) n)
+
+-- how many bytes a reading asks for
+abbrev pub needed : Reading → ℕ
+needed (took seconds) = 8
+needed (waited seconds) = 4
+
+-- a timing gives a transition, and its bytes are so many
+pub timed_there : (n x v : ℕ) (reading : Reading) (dead : Float)
+    → (o : Option Transition) × Timed reading dead v o × (length (setting_bytes n x o) ≡ needed reading)
+timed_there n x v (took seconds) dead =
+    let (c, least) = least_there (difference seconds dead) in
+    (some (record { target = v; cost = c }), (c, least, refl), refl)
+timed_there n x v (waited seconds) dead = (none, refl, refl)

@@ -9,42 +9,30 @@ ghost use Rattle.definitions.specs.Write.{arrow_bytes};
 ghost use Rattle.definitions.specs.Import.{took, AtLeastZero, NotBelow, difference, Admitted, setting_bytes, ImportSays};
 ghost use Rattle.book.specs.Decides.{Decides};
 ghost use Rattle.storing.specs.Stored.{Stored};
-ghost use Rattle.importing.specs.Meaning.{reading_of, answer_of, first_failing};
+ghost use Rattle.importing.specs.Meaning.{reading_of, answer_of};
 
+use refusals::Refusal;
 use storing::{put_arrow, put_node_byte};
 
 // What a probe logged: seconds taken, or seconds waited without an end.
-#[derive(Drop)]
+#[derive(Clone, Copy)]
 pub enum Reading {
     Taken(f32),
     Waited(f32),
 }
 
 // A reading, and the probe's own dead time in seconds.
-#[derive(Drop)]
+#[derive(Clone, Copy)]
 pub struct Timing {
     pub reading: Reading,
     pub dead_time: f32,
-}
-
-// What the import answers: how many bytes it wrote, or the number of a refusal.
-#[derive(Drop)]
-pub enum ImportAnswer {
-    Written(u32),
-    Refused(u32),
 }
 
 // Whether node, command and target are in range.
 fn in_range(node: u32, command: u32, target: u32) -> bool
     ensures { Decides result ((node < nodes) × (command < commands) × (target < nodes)) }
 {
-    if book::NODES <= node {
-        return false;
-    }
-    if book::COMMANDS <= command {
-        return false;
-    }
-    target < book::NODES
+    node < book::NODES && command < book::COMMANDS && target < book::NODES
 }
 
 // Seconds less a dead time, rounded once to a 32-bit float. What is made of it is worked out in 64 bits, which hold it exactly.
@@ -60,16 +48,7 @@ fn admitted(seconds: f32, dead: f32, rest: f64) -> bool
     requires { rest ≡ difference seconds dead }
     ensures { Decides result (Admitted (took seconds) dead) }
 {
-    if !(seconds >= 0.0) {
-        return false;
-    }
-    if !(dead >= 0.0) {
-        return false;
-    }
-    if !(rest >= 0.0) {
-        return false;
-    }
-    rest <= 65535.0
+    seconds >= 0.0 && dead >= 0.0 && rest >= 0.0 && rest <= 65535.0
 }
 
 // The least whole number that is not below x.
@@ -83,22 +62,6 @@ fn round_up(x: f64) -> u32
         return whole as u32 + 1;
     }
     whole as u32
-}
-
-// The number of a refusal, 0 where there is none: 6 (a number out of range), then 20 (the timing), then 15 (too little room).
-fn refusal(ranges: bool, timing: bool, room: bool) -> u32
-    ensures { result ≡ first_failing ranges timing room }
-{
-    if !ranges {
-        return 6;
-    }
-    if !timing {
-        return 20;
-    }
-    if !room {
-        return 15;
-    }
-    0
 }
 
 // Stores arrow at the front of a list, as far as the list goes: its cost is the least whole number not below a difference. The next place.
@@ -115,38 +78,42 @@ fn put_clear(out: &mut [u8], n: u32, x: u32) -> usize
     requires { (n < nodes) × (x < commands) }
     ensures { Stored out.old 0 (setting_bytes n x none) result out.new }
 {
-    put_node_byte(out, 0, 0x15, n, x)
+    put_node_byte(out, 0, 0x15, n, x as u8)
 }
 
 // The import: arrow with the cost of seconds taken, or clear for a wait without an end, at the front of out, the rest of out untouched, and
 // how many bytes that is. The cost is the least whole number not below the reading less the dead time, a difference rounded once. Refuses 6
 // (node, command or target out of range), 20 (seconds taken: a value that is not finite or is below zero, or a difference below zero or above
 // 65,535) and 15 (out shorter than the bytes), with nothing written.
-pub fn import(node: u32, command: u32, target: u32, timing: Timing, out: &mut [u8]) -> ImportAnswer
+pub fn import(
+    node: u32,
+    command: u32,
+    target: u32,
+    timing: Timing,
+    out: &mut [u8],
+) -> Result<u32, Refusal>
     ensures { ImportSays node command target (reading_of timing.reading) timing.dead_time
         out.old (answer_of result) out.new }
 {
-    let ranges = in_range(node, command, target);
-    let dead = timing.dead_time;
-    let reading = timing.reading;
-    match reading {
+    if !in_range(node, command, target) {
+        return Err(Refusal::OutOfRange);
+    }
+    match timing.reading {
         Reading::Taken(seconds) => {
-            let rest = less(seconds, dead);
-            let fits = admitted(seconds, dead, rest);
-            let number = refusal(ranges, fits, 8 <= out.len());
-            if number != 0 {
-                return ImportAnswer::Refused(number);
+            let rest = less(seconds, timing.dead_time);
+            if !admitted(seconds, timing.dead_time, rest) {
+                return Err(Refusal::BadTiming);
             }
-            let size = put_taken(out, node, command, target, rest) as u32;
-            ImportAnswer::Written(size)
+            if out.len() < 8 {
+                return Err(Refusal::NoRoom);
+            }
+            Ok(put_taken(out, node, command, target, rest) as u32)
         }
         Reading::Waited(_) => {
-            let number = refusal(ranges, true, 4 <= out.len());
-            if number != 0 {
-                return ImportAnswer::Refused(number);
+            if out.len() < 4 {
+                return Err(Refusal::NoRoom);
             }
-            let size = put_clear(out, node, command) as u32;
-            ImportAnswer::Written(size)
+            Ok(put_clear(out, node, command) as u32)
         }
     }
 }

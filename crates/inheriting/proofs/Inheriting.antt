@@ -25,8 +25,8 @@ use Rattle.search.proofs.Tables.{entry_none, entry_some}
 use Rattle.book.proofs.Chosen.{zeros_at}
 use Rattle.book.proofs.Counts.{no_counting, some_counting, counting_node}
 use Rattle.stepping.proofs.Climbing.{climb_ends, climb_up}
-use Rattle.stepping.proofs.Upward.{own, top}
-use Rattle.inheriting.specs.Inheriting.{way_costs, way_of, WayFits, after, NodeList, landed, finds, inherits, UpRoom, Inherited, RootRow, Handed, HandedTo}
+use Rattle.stepping.proofs.Upward.{top}
+use Rattle.inheriting.specs.Inheriting.{way_costs, way_of, WayFits, after, NodeList, landed, finds, inherits, UpRoom, Inherited, RootRow, Handed}
 
 -- ---- what a command finds
 
@@ -101,9 +101,6 @@ after_some w l there fits small =
     (omega arith, rw (ne_eqb w unreached there, ne_eqb (w + l) unreached (λ e. omega arith), target, price))
 
 module _ {t : Tree} {lands : List ℕ} {m : ℕ} where
-  pub handed_starts : (up : List ℕ) → Handed t lands (λ p x. (p ≡ m) × (x < 0)) up up
-  handed_starts up = record { told = λ p x range e. absurd (omega (arith, e.1)); kept = λ p x range e. e }
-
   module _ {j : ℕ} {old up : List ℕ} (to : Handed t lands (λ p x. (p ≡ m) × (x < j)) old up) where
     -- one word more
     pub handed_more : UpRoom up → m < machines → j < commands → (w : ℕ) → w ≤ unreached → way_of w ≡ inherits t lands m j
@@ -132,10 +129,6 @@ module _ {t : Tree} {lands : List ℕ} {m : ℕ} where
             ⊎_elim (λ (same : commands * p + x ≡ commands * m + j). stored p x range same)
             (λ (apart : commands * p + x ≡ commands * m + j → ⊥). rw (get_or-set_other up (commands * m + j) (commands * p + x) (unreached - w) 0 apart) right)
             (equal_or_not (commands * p + x) (commands * m + j))
-
-    -- all words
-    pub handed_ends : commands ≤ j → HandedTo t lands m old up
-    handed_ends all = record { told = λ p x range e. to.told p x range (e, omega arith); kept = to.kept }
 
 module _ {t : Tree} (s : Sound t) {lands : List ℕ} where
   -- what is found leads to a node, and at no more than a step costs

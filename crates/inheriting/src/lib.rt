@@ -7,8 +7,6 @@ ghost use Rattle.definitions.specs.Limits.{nodes, commands, blank};
 ghost use Rattle.definitions.specs.Book.{tree_of, WellFormed};
 ghost use Rattle.inheriting.specs.Inheriting.{way_costs, way_of, WayFits, after, NodeList, finds, UpRoom, MachineRow, OwnerRow, HandedTo};
 
-use book::wide;
-
 // What a command finds, as one word: the node where it lands times WAY, and what it costs; or NOTHING, which has ABSENT for its node.
 pub const WAY: u64 = 281474976710656;
 
@@ -19,7 +17,7 @@ fn way(v: u32, c: u32) -> u64
     requires { v < nodes }
     ensures { result ≡ v * way_costs + c }
 {
-    wide(v) * WAY + wide(c)
+    u64::from(v) * WAY + u64::from(c)
 }
 
 // `own`, but `inherited` where w is the word for no transition. Both are at hand, so that the choice needs no branch.
@@ -50,7 +48,7 @@ fn after(w: u64, l: u32) -> u64
     if w == NOTHING {
         return w;
     }
-    w + wide(l)
+    w + u64::from(l)
 }
 
 // Writes what machine m, held by node h, inherits: what every command y finds from h, after m was left. The row of the machine above is written
@@ -62,10 +60,8 @@ pub fn inherit(book: &[u32], lands: &[u32], m: u32, h: u32, up: &mut [u64])
 {
     let p = book::owner(book, h);
     let l = book::leave(book, m);
-    let mut y = 0u32;
-    while y < book::COMMANDS {
+    for y in 0..book::COMMANDS {
         let w = after(find(book, lands, up, p, h, y), l);
         up[(book::COMMANDS * m + y) as usize] = NOTHING - w;
-        y += 1;
     }
 }

@@ -1,41 +1,23 @@
--- Laws of tests in their order, and of what the words of a book say to each test. Assumes nothing.
+-- Laws of two tests in their order, and of what the words of a book say to each test. Assumes nothing.
 use mathlib.Core.Path.{◌≡◌, refl, sym, ◌∙◌, ap}
 use mathlib.Core.Logic.{⊎_elim}
 use mathlib.Core.Bool.{Bool, true, false, not, ◌||◌}
 use mathlib.Core.Option.{Option, none, some}
-use mathlib.Core.List.{[], List, ◌∷◌}
+use mathlib.Core.List.{List}
 use Prim.Native.Nat.{ℕ, ◌<◌}
 use native.Mathlib.Omega.{arith}
 use lib.Dec.{eqb}
-use borrow.Author.Tests.{eq-eqb, ne_eqb, not-false}
-use Rattle.definitions.specs.Limits.{machines, nodes, commands, levels, absent}
+use borrow.Author.Tests.{eq-eqb, ne_eqb}
+use Rattle.definitions.specs.Limits.{machines, nodes, levels, absent}
 use Rattle.definitions.specs.Basics.{option, is_some}
 use Rattle.definitions.specs.Tree.{Tree, UsedNode, Sound, used_machine, used_node, level}
 use Rattle.definitions.specs.Book.{word, tree_of, WellFormed}
-use Rattle.definitions.specs.Edit.{Test, ◌when◌, first_holding, bad_machine, bad_node, bad_command, bad_hold, is_start, apart, lowest, any_lowest}
-use Rattle.definitions.proofs.Options.{decided, true_false, is_some_true}
+use Rattle.definitions.specs.Edit.{is_start, apart, lowest, any_lowest}
+use Rattle.definitions.proofs.Options.{decided, true_false}
 use Rattle.definitions.proofs.Path.{same_level}
 use Rattle.definitions.proofs.Words.{present_word, owner_range, start_range, below_range, no_start}
-use Rattle.definitions.proofs.Commands.{neither, in_range, none_below, below_none}
+use Rattle.definitions.proofs.Commands.{none_below, below_none}
 use Rattle.stepping.proofs.Laws.{owner_told}
-
--- ---- tests in their order
-
--- the first test, whose answer is r, holds
-pub test_true : {k : ℕ} {r b : Bool} (rest : List Test) → r ≡ b → r ≡ true → k ≡ first_holding ((k when b) ∷ rest)
-unfolding first_holding
-test_true rest e holds = rw (sym e ∙ holds)
-
--- it does not hold: on with the others
-pub test_false : {v : ℕ} {r b : Bool} (k : ℕ) (rest : List Test) → r ≡ b → r ≡ false → v ≡ first_holding rest
-    → v ≡ first_holding ((k when b) ∷ rest)
-unfolding first_holding
-test_false k rest e fails next = rw (sym e ∙ fails) next
-
--- no test is left
-pub no_test : 0 ≡ first_holding []
-unfolding first_holding
-no_test = refl
 
 -- one of two tests, the first looked at first
 pub first_holds : {r a : Bool} (b : Bool) → r ≡ a → r ≡ true → r ≡ (a || b)
@@ -43,46 +25,6 @@ first_holds b e holds = rw (sym e ∙ holds) holds
 
 pub first_fails : {q r a b : Bool} → q ≡ a → q ≡ false → r ≡ b → r ≡ (a || b)
 first_fails e fails second = rw (sym e ∙ fails) second
-
--- a number that is not out of range
-pub node_range : (n : ℕ) {r : Bool} → r ≡ bad_node n → r ≡ false → n < nodes
-node_range n e fails = in_range (sym e ∙ fails)
-
--- the numbers that begin, add and crown name, where none is out of range
-pub place_range : (m n : ℕ) {r : Bool} → r ≡ (bad_machine m || bad_node n) → r ≡ false → (m < machines) × (n < nodes)
-place_range m n e fails = let (a, b) = neither (sym e ∙ fails) in (in_range a, in_range b)
-
--- those of clear, of hold, of leave, of refine and of arrow
-pub clear_range : (n x : ℕ) {r : Bool} → r ≡ (bad_node n || bad_command x) → r ≡ false → (n < nodes) × (x < commands)
-clear_range n x e fails = let (a, b) = neither (sym e ∙ fails) in (in_range a, in_range b)
-
-pub hold_range : (n b : ℕ) {r : Bool} → r ≡ (bad_node n || bad_hold b) → r ≡ false → n < nodes
-hold_range n b e fails = in_range (neither (sym e ∙ fails)).0
-
-pub leave_range : (m q : ℕ) {r : Bool} → r ≡ (bad_machine m || eqb m q) → r ≡ false → m < machines
-leave_range m q e fails = in_range (neither (sym e ∙ fails)).0
-
-pub refine_range : (n m s : ℕ) {r : Bool} → r ≡ (bad_node n || bad_machine m || bad_node s) → r ≡ false
-    → (n < nodes) × (m < machines) × (s < nodes)
-refine_range n m s e fails =
-    let (ab, c) = neither (sym e ∙ fails) in
-    let (a, b) = neither ab in
-    (in_range a, in_range b, in_range c)
-
-pub arrow_range : (n x v : ℕ) {r : Bool} → r ≡ (bad_node n || bad_command x || bad_node v) → r ≡ false
-    → (n < nodes) × (x < commands) × (v < nodes)
-arrow_range n x v e fails =
-    let (ab, c) = neither (sym e ∙ fails) in
-    let (a, b) = neither ab in
-    (in_range a, in_range b, in_range c)
-
--- a node of which the test says that it is in use
-pub is_used : (t : Tree) (n : ℕ) {r : Bool} → r ≡ used_node t n → not r ≡ false → UsedNode t n
-is_used t n {r} e used = is_some_true (t.owner n) (sym e ∙ not-false r used)
-
--- two nodes of which none is unused
-pub both_used : (t : Tree) (n v : ℕ) {r : Bool} → r ≡ (not (used_node t n) || not (used_node t v)) → r ≡ false → UsedNode t n × UsedNode t v
-both_used t n v e fails = let (a, b) = neither (sym e ∙ fails) in (is_used t n refl a, is_used t v refl b)
 
 -- ---- what the words say
 
@@ -159,7 +101,3 @@ module _ (ws : List ℕ) (w : WellFormed ws) where
     pub apart_told : (v : ℕ) → UsedNode (tree_of ws) v → {o p : ℕ} → o ≡ word ((tree_of ws).owner n) → p ≡ word ((tree_of ws).owner v)
         → not (eqb p o) ≡ apart (tree_of ws) n v
     apart_told v used_v eo ep = rw ((owner_told ws w n used eo).0, (owner_told ws w v used_v ep).0)
-
-    -- the level tells whether the node is the lowest
-    pub lowest_told : {l : ℕ} → l ≡ level (tree_of ws) n → eqb l levels ≡ lowest (tree_of ws) n
-    lowest_told e = ap (λ (k : ℕ). eqb k levels) e ∙ sym (lowest_used (tree_of ws) used.1)

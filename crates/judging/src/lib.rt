@@ -1,6 +1,6 @@
 // The refusals 6 to 12 and 21 of a command on a well-formed book, in the documents' order (document 01, "Loading a stream"; document 02, W-205,
 // W-207). Each test of a refusal is a function of its own, and a command goes through its tests in turn.
-#![tactic(auto)]
+#![tactic(auto, unfolding(definitions::specs::Edit::refusal, definitions::specs::Edit::refusals, definitions::specs::Edit::first_holding))]
 
 ghost use Rattle.std.specs.Prelude.{◌≡◌, false, not, ◌&&◌, ◌||◌, ℕ, ◌<◌, eqb};
 ghost use Rattle.definitions.specs.Limits.{machines, nodes};
@@ -9,9 +9,11 @@ ghost use Rattle.definitions.specs.Tree.{Tree, UsedNode, used_machine, used_node
 ghost use Rattle.definitions.specs.Book.{tree_of, WellFormed};
 ghost use Rattle.definitions.specs.Stream.{edit, begin, add, refine, remove, arrow, clear, start, crown, hold, leave};
 ghost use Rattle.definitions.specs.Edit.{bad_machine, bad_node, bad_command, bad_hold, is_start, apart, lowest, any_lowest, refusal};
+ghost use Rattle.refusals.specs.Meaning.{status_of};
 ghost use Rattle.reading.specs.Meaning.{command_of};
 
 use reading::Command;
+use refusals::Refusal;
 
 // Whether a machine is out of range.
 fn bad_machine(m: u32) -> bool
@@ -174,184 +176,182 @@ pub fn any_lowest(book: &[u32]) -> bool
     requires { WellFormed book.now }
     ensures { result ≡ any_lowest (tree_of book.now) }
 {
-    let mut m: u32 = 0;
-    while m < book::MACHINES {
+    for m in 0..book::MACHINES {
         if lowest_machine(book, m) {
             return true;
         }
-        m += 1;
     }
     false
 }
 
-// The refusal of begin, 0 where it is taken. Of this and the commands below: 6 (number out of range), 7 (machine or node not in use),
+// The refusal of begin, if it is refused. Of this and the commands below: 6 (number out of range), 7 (machine or node not in use),
 // 8 (new number in use), 9 (already refined), 10 (a start node), 11 (target in another machine), 12 (over 8 levels), 21 (a held start node).
-fn judge_begin(m: u32, n: u32) -> u32
-    ensures { (t : Tree) → result ≡ refusal t (edit (begin m n)) }
+fn judge_begin(m: u32, n: u32) -> Result<(), Refusal>
+    ensures { (t : Tree) → status_of result ≡ refusal t (edit (begin m n)) }
 {
     if place_out_of_range(m, n) {
-        return 6;
+        return Err(Refusal::OutOfRange);
     }
-    0
+    Ok(())
 }
 
 // The refusal of add.
-fn judge_add(book: &[u32], m: u32, n: u32) -> u32
+fn judge_add(book: &[u32], m: u32, n: u32) -> Result<(), Refusal>
     requires { WellFormed book.now }
-    ensures { result ≡ refusal (tree_of book.now) (edit (add m n)) }
+    ensures { status_of result ≡ refusal (tree_of book.now) (edit (add m n)) }
 {
     if place_out_of_range(m, n) {
-        return 6;
+        return Err(Refusal::OutOfRange);
     }
     if !used_machine(book, m) {
-        return 7;
+        return Err(Refusal::NotInUse);
     }
     if used_node(book, n) {
-        return 8;
+        return Err(Refusal::InUse);
     }
-    0
+    Ok(())
 }
 
 // The refusal of refine.
-fn judge_refine(book: &[u32], n: u32, m: u32, s: u32) -> u32
+fn judge_refine(book: &[u32], n: u32, m: u32, s: u32) -> Result<(), Refusal>
     requires { WellFormed book.now }
-    ensures { result ≡ refusal (tree_of book.now) (edit (refine n m s)) }
+    ensures { status_of result ≡ refusal (tree_of book.now) (edit (refine n m s)) }
 {
     if refine_out_of_range(n, m, s) {
-        return 6;
+        return Err(Refusal::OutOfRange);
     }
     if !used_node(book, n) {
-        return 7;
+        return Err(Refusal::NotInUse);
     }
     if used_place(book, m, s) {
-        return 8;
+        return Err(Refusal::InUse);
     }
     if refined(book, n) {
-        return 9;
+        return Err(Refusal::AlreadyRefined);
     }
     if lowest(book, n) {
-        return 12;
+        return Err(Refusal::TooDeep);
     }
-    0
+    Ok(())
 }
 
 // The refusal of remove.
-fn judge_remove(book: &[u32], n: u32) -> u32
+fn judge_remove(book: &[u32], n: u32) -> Result<(), Refusal>
     requires { WellFormed book.now }
-    ensures { result ≡ refusal (tree_of book.now) (edit (remove n)) }
+    ensures { status_of result ≡ refusal (tree_of book.now) (edit (remove n)) }
 {
     if bad_node(n) {
-        return 6;
+        return Err(Refusal::OutOfRange);
     }
     if !used_node(book, n) {
-        return 7;
+        return Err(Refusal::NotInUse);
     }
     if is_start(book, n) {
-        return 10;
+        return Err(Refusal::IsStart);
     }
-    0
+    Ok(())
 }
 
 // The refusal of arrow.
-fn judge_arrow(book: &[u32], n: u32, x: u32, v: u32) -> u32
+fn judge_arrow(book: &[u32], n: u32, x: u32, v: u32) -> Result<(), Refusal>
     requires { WellFormed book.now }
-    ensures { (c : ℕ) → result ≡ refusal (tree_of book.now) (edit (arrow n x v c)) }
+    ensures { (c : ℕ) → status_of result ≡ refusal (tree_of book.now) (edit (arrow n x v c)) }
 {
     if arrow_out_of_range(n, x, v) {
-        return 6;
+        return Err(Refusal::OutOfRange);
     }
     if unused_end(book, n, v) {
-        return 7;
+        return Err(Refusal::NotInUse);
     }
     if apart(book, n, v) {
-        return 11;
+        return Err(Refusal::OtherMachine);
     }
-    0
+    Ok(())
 }
 
 // The refusal of clear.
-fn judge_clear(book: &[u32], n: u32, x: u32) -> u32
+fn judge_clear(book: &[u32], n: u32, x: u32) -> Result<(), Refusal>
     requires { WellFormed book.now }
-    ensures { result ≡ refusal (tree_of book.now) (edit (clear n x)) }
+    ensures { status_of result ≡ refusal (tree_of book.now) (edit (clear n x)) }
 {
     if clear_out_of_range(n, x) {
-        return 6;
+        return Err(Refusal::OutOfRange);
     }
     if !used_node(book, n) {
-        return 7;
+        return Err(Refusal::NotInUse);
     }
-    0
+    Ok(())
 }
 
 // The refusal of start.
-fn judge_start(book: &[u32], n: u32) -> u32
+fn judge_start(book: &[u32], n: u32) -> Result<(), Refusal>
     requires { WellFormed book.now }
-    ensures { result ≡ refusal (tree_of book.now) (edit (start n)) }
+    ensures { status_of result ≡ refusal (tree_of book.now) (edit (start n)) }
 {
     if bad_node(n) {
-        return 6;
+        return Err(Refusal::OutOfRange);
     }
     if !used_node(book, n) {
-        return 7;
+        return Err(Refusal::NotInUse);
     }
     if on_hold(book, n) {
-        return 21;
+        return Err(Refusal::StartHeld);
     }
-    0
+    Ok(())
 }
 
 // The refusal of hold.
-fn judge_hold(book: &[u32], n: u32, b: u32) -> u32
+fn judge_hold(book: &[u32], n: u32, b: u32) -> Result<(), Refusal>
     requires { WellFormed book.now }
-    ensures { result ≡ refusal (tree_of book.now) (edit (hold n b)) }
+    ensures { status_of result ≡ refusal (tree_of book.now) (edit (hold n b)) }
 {
     if hold_out_of_range(n, b) {
-        return 6;
+        return Err(Refusal::OutOfRange);
     }
     if !used_node(book, n) {
-        return 7;
+        return Err(Refusal::NotInUse);
     }
     if holds_start(book, n, b) {
-        return 21;
+        return Err(Refusal::StartHeld);
     }
-    0
+    Ok(())
 }
 
 // The refusal of leave.
-fn judge_leave(book: &[u32], m: u32) -> u32
+fn judge_leave(book: &[u32], m: u32) -> Result<(), Refusal>
     requires { WellFormed book.now }
-    ensures { (c : ℕ) → result ≡ refusal (tree_of book.now) (edit (leave m c)) }
+    ensures { (c : ℕ) → status_of result ≡ refusal (tree_of book.now) (edit (leave m c)) }
 {
     if leave_out_of_range(book, m) {
-        return 6;
+        return Err(Refusal::OutOfRange);
     }
     if !used_machine(book, m) {
-        return 7;
+        return Err(Refusal::NotInUse);
     }
-    0
+    Ok(())
 }
 
 // The refusal of crown.
-fn judge_crown(book: &[u32], m: u32, n: u32) -> u32
+fn judge_crown(book: &[u32], m: u32, n: u32) -> Result<(), Refusal>
     requires { WellFormed book.now }
-    ensures { result ≡ refusal (tree_of book.now) (edit (crown m n)) }
+    ensures { status_of result ≡ refusal (tree_of book.now) (edit (crown m n)) }
 {
     if place_out_of_range(m, n) {
-        return 6;
+        return Err(Refusal::OutOfRange);
     }
     if used_place(book, m, n) {
-        return 8;
+        return Err(Refusal::InUse);
     }
     if any_lowest(book) {
-        return 12;
+        return Err(Refusal::TooDeep);
     }
-    0
+    Ok(())
 }
 
-// The number that a command is refused with on the book's tree; 0 where it is taken.
-pub fn refusal(book: &[u32], command: Command) -> u32
+// Whether a command is taken on the book's tree; else why it is refused.
+pub fn judge(book: &[u32], command: Command) -> Result<(), Refusal>
     requires { WellFormed book.now }
-    ensures { result ≡ refusal (tree_of book.now) (command_of command) }
+    ensures { status_of result ≡ refusal (tree_of book.now) (command_of command) }
 {
     match command {
         Command::Begin { machine, node } => judge_begin(machine, node),
@@ -371,7 +371,7 @@ pub fn refusal(book: &[u32], command: Command) -> u32
         Command::Clear { node, command } => judge_clear(book, node, command),
         Command::Start { node } => judge_start(book, node),
         Command::Crown { machine, node } => judge_crown(book, machine, node),
-        Command::Refresh => 0,
+        Command::Refresh => Ok(()),
         Command::Hold { node, hold } => judge_hold(book, node, hold),
         Command::Leave { machine, cost: _ } => judge_leave(book, machine),
     }

@@ -1,15 +1,15 @@
 -- The words of a ladder's rows, and the starts of a book, as the functions find them. Assumes nothing.
 use mathlib.Core.Path.{◌≡◌, refl, sym, ◌∙◌, ap}
-use mathlib.Core.Bool.{cond}
+use mathlib.Core.Bool.{false}
 use mathlib.Core.Option.{none, some}
 use mathlib.Core.Logic.{inr}
 use mathlib.Core.List.{[], List, ◌∷◌}
 use Prim.Native.Nat.{ℕ, zero, suc, ◌+◌, ◌*◌, ◌-◌, ◌/◌, ◌%◌, ◌^◌, ◌≤◌, ◌<◌}
 use native.Mathlib.Nat.{pow-le-pow_right}
-use native.Mathlib.Numerals.{add-one}
-use native.Mathlib.Omega.{arith, pow_step}
+use native.Mathlib.Omega.{arith}
+use lib.Dec.{eqb}
 use lib.ListN.{length}
-use borrow.Author.Tests.{eq-eqb, ne_eqb, lt-ltb, le-ltb}
+use borrow.Author.Tests.{lt-ltb, le-ltb}
 use Rattle.definitions.specs.Limits.{absent}
 use Rattle.definitions.specs.Tree.{Tree, Sound}
 use Rattle.definitions.specs.Book.{word, encode, tree_of, WellFormed}
@@ -28,9 +28,6 @@ use Rattle.opening.proofs.Comes.{rows_claimed, comes_rows}
 use Rattle.ladders.specs.Meaning.{StartRight}
 
 -- ---- powers of two
-
-pub doubled : (d : ℕ) → 2 ^ (d + 1) ≡ 2 * 2 ^ d
-doubled d = rw (add-one d) (pow_step 2 d)
 
 pub doubled_small : (d : ℕ) → d ≤ 6 → 2 ^ d ≤ 64
 doubled_small d h = omega (arith, pow-le-pow_right {n = 2} (omega arith) h)
@@ -68,20 +65,16 @@ below_over c n {m} other made big = go (n % 3) refl
 -- ---- the start node of a node's machine
 
 -- a node that is not in use starts nothing
-pub mark_none : (t : Tree) (n : ℕ) → t.owner n ≡ none → ◌≡◌ {A = ℕ} 0 (cond (is_start t n) 1 0)
-mark_none t n e = rw e
+pub unused_starts : (t : Tree) (n : ℕ) → t.owner n ≡ none → false ≡ is_start t n
+unused_starts t n e = rw e
 
-module _ {t : Tree} (s : Sound t) (n : ℕ) {m f : ℕ} (own : t.owner n ≡ some m) (said : f ≡ word (t.start m)) where
-  -- the word is that of a node
-  start_there : t.start m ≡ some f
-  unfolding word
-  start_there = let (g, e) = s.owner_used n m own in e ∙ ap some (sym (said ∙ ap word e))
-
-  pub mark_start : f ≡ n → ◌≡◌ {A = ℕ} 1 (cond (is_start t n) 1 0)
-  mark_start same = rw (own, start_there, eq-eqb f n same)
-
-  pub mark_other : (f ≡ n → ⊥) → ◌≡◌ {A = ℕ} 0 (cond (is_start t n) 1 0)
-  mark_other other = rw (own, start_there, ne_eqb f n other)
+-- a node in use is the start node if its machine's word is its number
+pub used_starts : {t : Tree} → Sound t → (n : ℕ) {m f : ℕ} → t.owner n ≡ some m → f ≡ word (t.start m) → eqb f n ≡ is_start t n
+unfolding word
+used_starts {t} s n {m} {f} own said =
+    let (g, e) = s.owner_used n m own in
+    let there : t.start m ≡ some f = e ∙ ap some (sym (said ∙ ap word e)) in
+    rw (own, there)
 
 -- ---- a book that holds the tree that is filled from the rows
 

@@ -1,7 +1,7 @@
 // Ladders of a caller's own (document 02, W-208): Open from a lent table of rows, and the generator, which writes the ladder's rows for a depth.
 #![tactic(auto)]
 
-ghost use Rattle.std.specs.Prelude.{◌≡◌, cond, ℕ, ◌+◌, ◌*◌, ◌-◌, ◌/◌, ◌%◌, ◌^◌, ◌≤◌, ◌<◌, eqb};
+ghost use Rattle.std.specs.Prelude.{◌≡◌, ℕ, ◌+◌, ◌*◌, ◌-◌, ◌^◌, ◌≤◌, ◌<◌};
 ghost use Rattle.definitions.specs.Limits.{nodes};
 ghost use Rattle.definitions.specs.Tree.{Tree};
 ghost use Rattle.definitions.specs.Book.{word, tree_of, WellFormed};
@@ -11,16 +11,11 @@ ghost use Rattle.definitions.specs.Calls.{OpenSays};
 ghost use Rattle.definitions.specs.Ladder.{ladder_row, ladder_rows, LadderSays};
 ghost use Rattle.book.specs.Decides.{Decides};
 ghost use Rattle.storing.specs.Stored.{Stored};
+ghost use Rattle.refusals.specs.Meaning.{status_of};
 ghost use Rattle.ladders.specs.Meaning.{StartRight, answer_of};
 
-use storing::put_word;
-
-// What the generator answers: how many numbers it wrote, or the number of a refusal.
-#[derive(Drop)]
-pub enum LadderAnswer {
-    Written(u32),
-    Refused(u32),
-}
+use refusals::Refusal;
+use storing::{put, put_each};
 
 // The most numbers that a table has: 189 rows of 3.
 const LONGEST: usize = 567;
@@ -29,22 +24,16 @@ const LONGEST: usize = 567;
 fn right_length(rows: &[u32]) -> bool
     ensures { Decides result (TableLength rows.now) }
 {
-    if rows.len() % 3 != 0 {
-        return false;
-    }
-    rows.len() <= LONGEST
+    rows.len() % 3 == 0 && rows.len() <= LONGEST
 }
 
-// 1 where node n of a book is the start node of its machine, else 0.
-fn start_mark(book: &[u32], n: u32) -> u32
+// Whether node n of a book is the start node of its machine.
+fn is_start_node(book: &[u32], n: u32) -> bool
     requires { WellFormed book.now × (n < nodes) }
-    ensures { result ≡ cond (is_start (tree_of book.now) n) 1 0 }
+    ensures { result ≡ is_start (tree_of book.now) n }
 {
     let m = book::owner(book, n);
-    if m == book::ABSENT {
-        return 0;
-    }
-    if book::start(book, m) == n { 1 } else { 0 }
+    m != book::ABSENT && book::start(book, m) == n
 }
 
 // Whether row n has 1 for a start exactly where the book has one there, else 0.
@@ -52,7 +41,7 @@ fn start_right(book: &[u32], rows: &[u32], n: u32) -> bool
     requires { WellFormed book.now × (n < row_count rows.now) × (n < nodes) }
     ensures { Decides result (StartRight (tree_of book.now) rows.now n) }
 {
-    opening::row(rows, n, 2) == start_mark(book, n)
+    opening::row(rows, n, 2) == u32::from(is_start_node(book, n))
 }
 
 // Whether every row has the start that the book has.
@@ -61,12 +50,10 @@ fn starts_right(book: &[u32], rows: &[u32]) -> bool
     ensures { Decides result ((n : ℕ) → n < row_count rows.now → StartRight (tree_of book.now) rows.now n) }
 {
     let count = rows.len() / 3;
-    let mut n: u32 = 0;
-    while (n as usize) < count {
+    for n in 0..count as u32 {
         if !start_right(book, rows, n) {
             return false;
         }
-        n += 1;
     }
     true
 }
@@ -78,32 +65,22 @@ fn opens(rows: &[u32]) -> bool
 {
     let mut book = [0u32; book::BOOK];
     opening::open_book(&mut book, rows);
-    if wellformed::well_formed(&book) {
-        starts_right(&book, rows)
-    } else {
-        false
-    }
+    wellformed::well_formed(&book) && starts_right(&book, rows)
 }
 
-// Open from a table: makes the tree of the rows, all its machines marked, in the book and the sheet, and gives 0. It refuses 1 (a wrong length
-// of any of the three lists) and 2 (no book comes of the rows, or none that is well formed), and then writes nothing.
-pub fn open_table(rows: &[u32], book: &mut [u32], sheet: &mut [u32]) -> u32
-    ensures { OpenSays (table rows.now) book.old sheet.old result book.new sheet.new }
+// Open from a table: makes the tree of the rows, all its machines marked, in the book and the sheet. It refuses 1 (a wrong length of any of the
+// three lists) and 2 (no book comes of the rows, or none that is well formed), and then writes nothing.
+pub fn open_table(rows: &[u32], book: &mut [u32], sheet: &mut [u32]) -> Result<(), Refusal>
+    ensures { OpenSays (table rows.now) book.old sheet.old (status_of result) book.new sheet.new }
 {
-    if book.len() != book::BOOK {
-        return 1;
-    }
-    if sheet.len() != sheet::SHEET {
-        return 1;
-    }
-    if !right_length(rows) {
-        return 1;
+    if book.len() != book::BOOK || sheet.len() != sheet::SHEET || !right_length(rows) {
+        return Err(Refusal::WrongLength);
     }
     if !opens(rows) {
-        return 2;
+        return Err(Refusal::NotWellFormed);
     }
     opening::open_rows(book, sheet, rows);
-    0
+    Ok(())
 }
 
 // How many machines the ladder of a depth has: 2 to the depth, less 1.
@@ -111,13 +88,7 @@ fn machine_count(depth: u32) -> u32
     requires { depth ≤ 6 }
     ensures { result ≡ 2 ^ depth - 1 }
 {
-    let mut c: u32 = 0;
-    let mut d: u32 = 0;
-    while d < depth {
-        c = 2 * c + 1;
-        d += 1;
-    }
-    c
+    2u32.pow(depth) - 1
 }
 
 // The machine below node n in the ladder of c machines; ABSENT where there is none.
@@ -133,21 +104,14 @@ fn below(c: u32, n: u32) -> u32
     if m < c { m } else { book::ABSENT }
 }
 
-// 1 for the start node of its machine, else 0.
-fn starts(n: u32) -> u32
-    ensures { result ≡ cond (eqb (n % 3) 1) 1 0 }
-{
-    if n % 3 == 1 { 1 } else { 0 }
-}
-
 // Stores row n of the ladder of c machines at a place, as far as the list goes; the next place.
 fn put_row(out: &mut [u32], at: usize, c: u32, n: u32) -> usize
     requires { (at + 3 < 2 ^ 64) × (c ≤ ladder_machines) × (n < 3 * c) }
     ensures { Stored out.old at (ladder_row c n) result out.new }
 {
-    let second = put_word(out, at, n / 3);
-    let third = put_word(out, second, below(c, n));
-    put_word(out, third, starts(n))
+    let second = put(out, at, n / 3);
+    let third = put(out, second, below(c, n));
+    put(out, third, u32::from(n % 3 == 1))
 }
 
 // Stores the rows of the ladder of c machines at the front of a list, as far as it goes; how many numbers they have.
@@ -155,30 +119,21 @@ fn put_rows(out: &mut [u32], c: u32) -> usize
     requires { c ≤ ladder_machines }
     ensures { Stored out.old 0 (ladder_rows c) result out.new }
 {
-    let mut p = 0usize;
-    let mut n: u32 = 0;
-    while n < 3 * c {
-        p = put_row(out, p, c, n);
-        n += 1;
-    }
-    p
+    put_each(3 * c, out, 0, |n, list, at| put_row(list, at, c, n))
 }
 
 // The generator: the rows of the ladder of a depth at the front of out, the rest of out untouched, and how many numbers they have. It refuses 24
 // (a depth outside 1 to 6), then 15 (out too short), with nothing written.
-pub fn ladder(depth: u32, out: &mut [u32]) -> LadderAnswer
+pub fn ladder(depth: u32, out: &mut [u32]) -> Result<u32, Refusal>
     ensures { LadderSays depth out.old (answer_of result) out.new }
 {
-    if depth == 0 {
-        return LadderAnswer::Refused(24);
-    }
-    if 6 < depth {
-        return LadderAnswer::Refused(24);
+    if depth == 0 || 6 < depth {
+        return Err(Refusal::BadDepth);
     }
     let c = machine_count(depth);
     if out.len() < 9 * (c as usize) {
-        return LadderAnswer::Refused(15);
+        return Err(Refusal::NoRoom);
     }
     let n = put_rows(out, c);
-    LadderAnswer::Written(n as u32)
+    Ok(n as u32)
 }

@@ -1,69 +1,51 @@
 // Each call made on both layouts: by node on one list, by command on the other. What it answers and every word that it leaves are compared.
-ghost use Rattle.std.specs.Prelude.{◌≤◌};
-
-use crate::layout::{apart, different, different_bytes};
+use crate::layout::{apart, different};
 use choosing::Chosen;
-use exiting::ExitAnswer;
-use loading::Loaded;
-use planning::PlanAnswer;
-use stepping::StepAnswer;
-use writing::WriteAnswer;
+use planning::Planned;
+use refusals::Refusal;
+use stepping::Moved;
+use trying::status;
 
-// What a call by node answers: 0 or the refusal, and up to three values; and how many values and words are different by command.
-#[derive(Drop)]
+// The values that a call gives.
+#[derive(Clone, Copy, PartialEq, Eq)]
+pub enum Values {
+    Zero,
+    One(u64),
+    Two(u64, u64),
+    Three(u64, u64, u64),
+}
+
+// What a call by node answers, the refusal, where it refuses, and the values; and how many answers and words are different by command. A load
+// gives its counts also where it refuses.
+#[derive(Clone, Copy)]
 pub struct Both {
-    pub number: u32,
-    pub values: u32,
-    pub a: u32,
-    pub b: u32,
-    pub c: u32,
-    pub different: u32,
+    pub refusal: Option<Refusal>,
+    pub values: Values,
+    pub different: u64,
 }
 
-// 1 where two numbers are not the same, else 0.
-fn unlike(a: u32, b: u32) -> u32
-    ensures { result ≤ 1 }
-{
-    if a == b { 0 } else { 1 }
+// So many words that are different, and one more where the answers are not the same.
+fn counted(same: bool, words: u64) -> u64 {
+    if same { words } else { words.saturating_add(1) }
 }
 
-// An answer with so many values.
-fn answer(number: u32, values: u32, a: u32, b: u32, c: u32) -> Both {
+// An answer, whether it is the same by command, and the words that are different.
+fn held(answer: Result<Values, Refusal>, same: bool, words: u64) -> Both {
     Both {
-        number,
-        values,
-        a,
-        b,
-        c,
-        different: 0,
+        refusal: answer.err(),
+        values: answer.unwrap_or(Values::Zero),
+        different: counted(same, words),
     }
 }
 
-// An answer that is a number alone.
-fn alone(number: u32) -> Both {
-    answer(number, 0, 0, 0, 0)
-}
-
-// The first answer, with the values and words that are different in the second.
-fn held(one: Both, two: Both, words: u32) -> Both {
-    let values = unlike(one.number, two.number)
-        + unlike(one.values, two.values)
-        + unlike(one.a, two.a)
-        + unlike(one.b, two.b)
-        + unlike(one.c, two.c);
-    Both {
-        number: one.number,
-        values: one.values,
-        a: one.a,
-        b: one.b,
-        c: one.c,
-        different: values + words % 1000000,
-    }
+// The same of an answer that gives no values.
+fn alone(one: Result<(), Refusal>, two: Result<(), Refusal>, words: u64) -> Both {
+    held(one.map(|()| Values::Zero), one == two, words)
 }
 
 // How many words of a book and of a sheet are different.
-fn words(book: &[u32], other: &[u32], sheet: &[u32], second: &[u32]) -> u32 {
-    apart(book, other) % 100000 + different(sheet, second) % 100000
+fn words(book: &[u32], other: &[u32], sheet: &[u32], second: &[u32]) -> u64 {
+    apart(book, other).saturating_add(different(sheet, second))
 }
 
 // Open fresh.
@@ -73,9 +55,9 @@ pub fn open_fresh(
     sheet: &mut [u32],
     second: &mut [u32],
 ) -> Both {
-    let one = alone(opening::open_fresh(book, sheet));
-    let two = alone(bycommand::open_fresh(other, second));
-    held(one, two, words(book, other, sheet, second))
+    let one = opening::open_fresh(book, sheet);
+    let two = bycommand::open_fresh(other, second);
+    alone(one, two, words(book, other, sheet, second))
 }
 
 // Open ladder.
@@ -85,9 +67,9 @@ pub fn open_ladder(
     sheet: &mut [u32],
     second: &mut [u32],
 ) -> Both {
-    let one = alone(opening::open_ladder(book, sheet));
-    let two = alone(bycommand::open_ladder(other, second));
-    held(one, two, words(book, other, sheet, second))
+    let one = opening::open_ladder(book, sheet);
+    let two = bycommand::open_ladder(other, second);
+    alone(one, two, words(book, other, sheet, second))
 }
 
 // Open from a table.
@@ -98,30 +80,9 @@ pub fn open_table(
     sheet: &mut [u32],
     second: &mut [u32],
 ) -> Both {
-    let one = alone(ladders::open_table(rows, book, sheet));
-    let two = alone(bycommand::open_table(rows, other, second));
-    held(one, two, words(book, other, sheet, second))
-}
-
-// The counts of a load, and its number.
-fn loaded(l: Loaded) -> Both {
-    answer(
-        l.number,
-        2,
-        (l.bytes % 65536) as u32,
-        (l.commands % 65536) as u32,
-        0,
-    )
-}
-
-// Load by node.
-fn load_by_node(book: &mut [u32], sheet: &mut [u32], stream: &[u8]) -> Both {
-    loaded(loading::load(book, sheet, stream))
-}
-
-// Load by command.
-fn load_by_command(book: &mut [u32], sheet: &mut [u32], stream: &[u8]) -> Both {
-    loaded(bycommand::load(book, sheet, stream))
+    let one = ladders::open_table(rows, book, sheet);
+    let two = bycommand::open_table(rows, other, second);
+    alone(one, two, words(book, other, sheet, second))
 }
 
 // Load.
@@ -132,47 +93,37 @@ pub fn load(
     second: &mut [u32],
     stream: &[u8],
 ) -> Both {
-    let one = load_by_node(book, sheet, stream);
-    let two = load_by_command(other, second, stream);
-    held(one, two, words(book, other, sheet, second))
-}
-
-// The cost of an exit.
-fn exited(e: ExitAnswer) -> Both {
-    match e {
-        ExitAnswer::Costs(cost) => answer(0, 1, cost, 0, 0),
-        ExitAnswer::Refused(k) => alone(k),
+    let one = loading::load(book, sheet, stream);
+    let two = bycommand::load(other, second, stream);
+    Both {
+        refusal: one.refusal,
+        values: Values::Two(one.bytes as u64, one.commands as u64),
+        different: counted(one == two, words(book, other, sheet, second)),
     }
 }
 
 // Exit.
 pub fn exit(book: &[u32], other: &[u32], sheet: &[u32], machine: u32, command: u32) -> Both {
-    let one = exited(exiting::exit(book, sheet, machine, command));
-    let two = exited(bycommand::exit(other, sheet, machine, command));
-    held(one, two, 0)
+    let one = exiting::exit(book, sheet, machine, command);
+    let two = bycommand::exit(other, sheet, machine, command);
+    held(one.map(|cost| Values::One(cost as u64)), one == two, 0)
 }
 
 // State, cost and node of a step.
-fn moved(s: StepAnswer) -> Both {
-    match s {
-        StepAnswer::Moved { state, cost, node } => answer(0, 3, state, cost, node),
-        StepAnswer::Refused(k) => alone(k),
-    }
+fn moved(m: Moved) -> Values {
+    Values::Three(m.state as u64, m.cost as u64, m.node as u64)
 }
 
 // Step.
 pub fn step(book: &[u32], other: &[u32], state: u32, command: u32) -> Both {
-    let one = moved(stepping::step(book, state, command));
-    let two = moved(bycommand::step(other, state, command));
-    held(one, two, 0)
+    let one = stepping::step(book, state, command);
+    let two = bycommand::step(other, state, command);
+    held(one.map(moved), one == two, 0)
 }
 
 // Cost and count of a plan.
-fn planned(p: PlanAnswer) -> Both {
-    match p {
-        PlanAnswer::Planned { cost, count } => answer(0, 2, cost, count, 0),
-        PlanAnswer::Refused(k) => alone(k),
-    }
+fn planned(p: Planned) -> Values {
+    Values::Two(p.cost as u64, p.count as u64)
 }
 
 // Plan, with a buffer for each layout.
@@ -185,43 +136,39 @@ pub fn plan(
     buffer: &mut [u8],
     second: &mut [u8],
 ) -> Both {
-    let one = planned(planning::plan(book, sheet, a, b, buffer));
-    let two = planned(bycommand::plan(other, sheet, a, b, second));
-    held(one, two, different_bytes(buffer, second))
-}
-
-// The length of what is written.
-fn written(w: WriteAnswer) -> Both {
-    match w {
-        WriteAnswer::Written(n) => answer(0, 1, n, 0, 0),
-        WriteAnswer::Refused(k) => alone(k),
-    }
+    let one = planning::plan(book, sheet, a, b, buffer);
+    let two = bycommand::plan(other, sheet, a, b, second);
+    held(one.map(planned), one == two, different(buffer, second))
 }
 
 // Write, with an output for each layout.
 pub fn write(book: &[u32], other: &[u32], out: &mut [u8], second: &mut [u8]) -> Both {
-    let one = written(writing::write(book, out));
-    let two = written(bycommand::write(other, second));
-    held(one, two, different_bytes(out, second))
+    let one = writing::write(book, out);
+    let two = bycommand::write(other, second);
+    held(
+        one.map(|length| Values::One(length as u64)),
+        one == two,
+        different(out, second),
+    )
 }
 
 // Which list is chosen, 1 or 2, and how many of its commands.
-fn chosen(c: Chosen) -> Both {
+fn chosen(c: Chosen) -> Values {
     match c {
-        Chosen::First(n) => answer(0, 2, 1, (n % 65537) as u32, 0),
-        Chosen::Second(n) => answer(0, 2, 2, (n % 65537) as u32, 0),
-        Chosen::Refused(k) => alone(k),
+        Chosen::First(n) => Values::Two(1, n as u64),
+        Chosen::Second(n) => Values::Two(2, n as u64),
     }
 }
 
 // Choose, told by list and count.
 pub fn choice(book: &[u32], other: &[u32], a: u32, b: u32, first: &[u8], second: &[u8]) -> Both {
-    let one = chosen(choosing::choice(book, a, b, first, second));
-    let two = chosen(bycommand::choice(other, a, b, first, second));
-    held(one, two, 0)
+    let one = choosing::choice(book, a, b, first, second);
+    let two = bycommand::choice(other, a, b, first, second);
+    held(one.map(chosen), one == two, 0)
 }
 
-// Choose: the word and the length of the part, whose bytes are compared.
+// Choose: the length of the part, whose bytes are compared. Its word is a number alone, so the refusal is that of `choice`; words that are not its
+// number are different.
 pub fn choose<'a>(
     book: &[u32],
     other: &[u32],
@@ -234,11 +181,14 @@ pub fn choose<'a>(
     let mut another = 77u32;
     let part = choosing::choose(book, a, b, first, second, &mut word);
     let again = bycommand::choose(other, a, b, first, second, &mut another);
-    held(
-        answer(word, 1, (part.len() % 65537) as u32, 0, 0),
-        answer(another, 1, (again.len() % 65537) as u32, 0, 0),
-        different_bytes(part, again),
-    )
+    let refusal = choosing::choice(book, a, b, first, second).err();
+    let right = status(refusal);
+    let same = word == right && another == right && part.len() == again.len();
+    Both {
+        refusal,
+        values: Values::One(part.len() as u64),
+        different: counted(same, different(part, again)),
+    }
 }
 
 // Merge; all books are lent in both layouts.
@@ -252,16 +202,16 @@ pub fn merge(
     sheet: &mut [u32],
     rows: &mut [u32],
 ) -> Both {
-    let one = alone(merging::merge(first, second, book, sheet));
-    let two = alone(bycommand::merge(first_other, second_other, other, rows));
-    held(one, two, words(book, other, sheet, rows))
+    let one = merging::merge(first, second, book, sheet);
+    let two = bycommand::merge(first_other, second_other, other, rows);
+    alone(one, two, words(book, other, sheet, rows))
 }
 
 // The opening of walkers.
 pub fn open_walkers(book: &[u32], other: &[u32], node: u32, limit: u32, walkers: &[u32]) -> Both {
-    let one = alone(walking::open_walkers(book, node, limit, walkers));
-    let two = alone(bycommand::open_walkers(other, node, limit, walkers));
-    held(one, two, 0)
+    let one = walking::open_walkers(book, node, limit, walkers);
+    let two = bycommand::open_walkers(other, node, limit, walkers);
+    alone(one, two, 0)
 }
 
 // A walker command, with records for each layout.
@@ -275,7 +225,7 @@ pub fn walk(
     walker: u32,
     command: u32,
 ) -> Both {
-    let one = moved(walking::walk(book, node, limit, walkers, walker, command));
-    let two = moved(bycommand::walk(other, node, limit, second, walker, command));
-    held(one, two, different(walkers, second))
+    let one = walking::walk(book, node, limit, walkers, walker, command);
+    let two = bycommand::walk(other, node, limit, second, walker, command);
+    held(one.map(moved), one == two, different(walkers, second))
 }

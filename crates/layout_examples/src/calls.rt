@@ -1,19 +1,11 @@
 // Each call on both layouts of the mast book: document 01's numbers, and a refusal of each kind.
-use crate::both;
-use crate::both::Both;
-use crate::layout::{Book, Sheet, turn};
-use crate::tally::{number, say, show, text};
+ghost use Rattle.std.specs.Prelude.{◌<◌};
 
-// Load on both layouts of a book.
-fn load(
-    book: &mut Book,
-    other: &mut Book,
-    sheet: &mut Sheet,
-    second: &mut Sheet,
-    stream: &[u8],
-) -> Both {
-    both::load(book, other, sheet, second, stream)
-}
+use crate::both;
+use crate::both::{Both, Values};
+use crate::layout::{Book, Sheet, turn};
+use crate::tally::show;
+use trying::{front, numbers, say, status, text};
 
 // Writes a text and what a load answers on copies of a book and a sheet.
 fn show_load(t: &[u8], book: &Book, other: &Book, sheet: &Sheet, stream: &[u8]) {
@@ -21,7 +13,10 @@ fn show_load(t: &[u8], book: &Book, other: &Book, sheet: &Sheet, stream: &[u8]) 
     let mut two = *other;
     let mut rows = *sheet;
     let mut second = *sheet;
-    show(t, load(&mut one, &mut two, &mut rows, &mut second, stream));
+    show(
+        t,
+        both::load(&mut one, &mut two, &mut rows, &mut second, stream),
+    );
 }
 
 // Writes a text and what the opening from a table answers over lists of sevens.
@@ -148,7 +143,7 @@ fn show_no_exit(book: &Book, other: &Book, sheet: &Sheet) {
     let mut two = *other;
     let mut rows = *sheet;
     let mut second = *sheet;
-    load(
+    both::load(
         &mut one,
         &mut two,
         &mut rows,
@@ -159,20 +154,9 @@ fn show_no_exit(book: &Book, other: &Book, sheet: &Sheet) {
 }
 
 // Writes the commands of a plan.
-fn show_commands(buffer: &[u8; 3], count: u32) {
+fn show_commands(buffer: &[u8; 3], count: u64) {
     text(b" by");
-    let mut i = 0u32;
-    while i < 3 {
-        if i < count {
-            number(wide(buffer[i as usize]));
-        }
-        i += 1;
-    }
-}
-
-// The byte as a number.
-fn wide(b: u8) -> u32 {
-    b as u32
+    numbers(front(buffer, count as usize));
 }
 
 // Writes a text, the commands of a plan, and its cost and count, or the refusal.
@@ -181,8 +165,8 @@ fn show_plan(t: &[u8], book: &Book, other: &Book, sheet: &Sheet, a: u32, b: u32)
     let mut second = [255u8; 3];
     let plan = both::plan(book, other, sheet, a, b, &mut buffer, &mut second);
     text(t);
-    if plan.number == 0 {
-        show_commands(&buffer, plan.b);
+    if let Values::Two(_, count) = plan.values {
+        show_commands(&buffer, count);
     }
     show(b":", plan);
 }
@@ -193,7 +177,7 @@ fn show_changed(t: &[u8], book: &Book, other: &Book, sheet: &Sheet, stream: &[u8
     let mut two = *other;
     let mut rows = *sheet;
     let mut second = *sheet;
-    load(&mut one, &mut two, &mut rows, &mut second, stream);
+    both::load(&mut one, &mut two, &mut rows, &mut second, stream);
     text(t);
     show_plan(b" plan 0 to 2", &one, &two, &rows, 0, 2);
 }
@@ -230,16 +214,11 @@ fn show_changes(b: &Book, c: &Book, sheet: &Sheet) {
     show_changed(b"leaving 1 costs 9,", b, c, sheet, b"\x1B\x01\x00\x09\x18");
 }
 
-// Writes, and says how much.
-fn show_writes(book: &Book, other: &Book) {
-    show(
-        b"write into 70 bytes:",
-        both::write(book, other, &mut [7u8; 70], &mut [7u8; 70]),
-    );
-    show(
-        b"write into 69 bytes:",
-        both::write(book, other, &mut [7u8; 69], &mut [7u8; 69]),
-    );
+// Writes a text and what Write answers for outputs of so many bytes.
+fn show_write<const N: usize>(t: &[u8], book: &Book, other: &Book)
+    requires { N < 65536 }
+{
+    show(t, both::write(book, other, &mut [7u8; N], &mut [7u8; N]));
 }
 
 // Writes a text and what both calls of Choose answer from 0 to a state.
@@ -252,7 +231,8 @@ fn show_choice<'a>(t: &[u8], book: &Book, other: &Book, b: u32, first: &'a [u8],
 
 // Write and Choose; in the second case both lists cost 20.
 pub fn show_lists(b: &Book, c: &Book) {
-    show_writes(b, c);
+    show_write::<70>(b"write into 70 bytes:", b, c);
+    show_write::<69>(b"write into 69 bytes:", b, c);
     show_choice(b"0 to 2,", b, c, 2, b"\x02", b"\x00\x02\x01\x00");
     show_choice(
         b"equal cost,",
@@ -300,10 +280,10 @@ pub fn show_merges(book: &Book, other: &Book) {
         book,
         other,
     );
-    opening::open_ladder(&mut one, &mut sheet);
+    let _ = opening::open_ladder(&mut one, &mut sheet);
     turn(&one, &mut two);
     show_merge(b"merge the ladder with it:", &one, &two, book, other);
-    opening::open_fresh(&mut one, &mut sheet);
+    let _ = opening::open_fresh(&mut one, &mut sheet);
     turn(&one, &mut two);
     show_merge(b"merge it with a fresh one:", book, other, &one, &two);
     loading::load(
@@ -360,47 +340,61 @@ fn refuse_walkers(b: &Book, c: &Book) {
     show_open(b"open nine walkers:", b, c, 0, 1, &[0; 9]);
 }
 
-// Writes a text and the number of an answer, and gives how much is different.
-fn brief(t: &[u8], both: Both) -> u32 {
-    say(t, both.number);
-    both.different % 1000000
+// Writes a text and the number of the refusal, or 0, and counts how much is different.
+fn brief(t: &[u8], both: Both, different: &mut u64) {
+    say(t, status(both.refusal));
+    *different = different.saturating_add(both.different);
 }
 
 // The calls with a sheet, on lists that may be no book or sheet.
-fn with_sheet(book: &[u32], other: &[u32], sheet: &[u32]) -> u32 {
-    let a = brief(b" exit", both::exit(book, other, sheet, 1, 0));
-    let b = brief(
+fn with_sheet(book: &[u32], other: &[u32], sheet: &[u32], different: &mut u64) {
+    brief(b" exit", both::exit(book, other, sheet, 1, 0), different);
+    brief(
         b", plan",
         both::plan(book, other, sheet, 0, 2, &mut [7u8; 9], &mut [7u8; 9]),
+        different,
     );
-    a % 1000000 + b % 1000000
 }
 
 // The calls with a book alone.
-fn with_book(book: &[u32], other: &[u32]) -> u32 {
+fn with_book(book: &[u32], other: &[u32], different: &mut u64) {
     let mut w = [0u32; 3];
     let mut v = w;
-    let a = brief(b", step", both::step(book, other, 0, 0));
-    let b = brief(
+    brief(b", step", both::step(book, other, 0, 0), different);
+    brief(
         b", write",
         both::write(book, other, &mut [7u8; 99], &mut [7u8; 99]),
+        different,
     );
-    let c = brief(b", choice", both::choice(book, other, 0, 2, b"\x02", b""));
-    let d = brief(b", choose", both::choose(book, other, 0, 2, b"\x02", b""));
-    let e = brief(b", open walkers", both::open_walkers(book, other, 1, 3, &w));
-    let f = brief(
+    brief(
+        b", choice",
+        both::choice(book, other, 0, 2, b"\x02", b""),
+        different,
+    );
+    brief(
+        b", choose",
+        both::choose(book, other, 0, 2, b"\x02", b""),
+        different,
+    );
+    brief(
+        b", open walkers",
+        both::open_walkers(book, other, 1, 3, &w),
+        different,
+    );
+    brief(
         b", walk",
         both::walk(book, other, 1, 3, &mut w, &mut v, 0, 0),
+        different,
     );
-    a % 1000000 + b % 1000000 + c % 1000000 + d % 1000000 + e % 1000000 + f % 1000000
 }
 
 // A line of what each call that writes no book answers, and how much is different by command.
 fn show_every(t: &[u8], book: &[u32], other: &[u32], sheet: &[u32]) {
+    let mut different = 0u64;
     text(t);
-    let a = with_sheet(book, other, sheet);
-    let b = with_book(book, other);
-    say(b", different", a % 1000000 + b % 1000000);
+    with_sheet(book, other, sheet, &mut different);
+    with_book(book, other, &mut different);
+    say(b", different", different);
     text(b"\n");
 }
 

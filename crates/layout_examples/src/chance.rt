@@ -1,27 +1,9 @@
 // Random numbers, always the same ones, and random streams. Streams are drawn blindly; Load says what it takes.
-ghost use Rattle.std.specs.Prelude.{◌≤◌};
-
 use crate::layout::Book;
+use trying::{draw, once_in, put, put_pair};
 
 // A stream's bytes stand at the front; how many there are goes beside it.
 pub type Stream = [u8; 32];
-
-// A number below n, the next of the generator; 0 where n is 0.
-pub fn draw(seed: &mut u64, n: u32) -> u32
-    ensures { result ≤ n }
-{
-    let next = (*seed % 2147483647) * 48271 % 2147483647;
-    *seed = next;
-    if n == 0 {
-        return 0;
-    }
-    (next % 2147483647) as u32 % n
-}
-
-// True once in n draws or so.
-pub fn once_in(seed: &mut u64, n: u32) -> bool {
-    draw(seed, n) == 0
-}
 
 // A number below n, or now and then one that may be out of range.
 pub fn near(seed: &mut u64, n: u32) -> u32 {
@@ -41,21 +23,6 @@ pub fn any_word(seed: &mut u64) -> u32 {
         3 => 4294967295,
         _ => 65536 * (draw(seed, 32) % 256) + draw(seed, 99) % 65536,
     }
-}
-
-// Writes a byte, and gives the place after it; a full stream stays as it is.
-fn put(stream: &mut Stream, at: usize, b: u32) -> usize {
-    if at >= 32 {
-        return at;
-    }
-    stream[at] = (b % 256) as u8;
-    at + 1
-}
-
-// Writes two bytes, high byte first.
-fn put_pair(stream: &mut Stream, at: usize, w: u32) -> usize {
-    let next = put(stream, at, w / 256);
-    put(stream, next, w)
 }
 
 // An opcode: most often one that adds, refines or sets a transition; now and then any number to 0x1C.
@@ -132,28 +99,21 @@ pub fn make(seed: &mut u64, stream: &mut Stream) -> usize {
 
 // Fills a list with random commands, some of them none.
 pub fn fill(seed: &mut u64, list: &mut Stream) {
-    let mut i = 0usize;
-    while i < 32 {
-        let x = near(seed, 5);
-        list[i] = (x % 256) as u8;
-        i += 1;
+    for command in list.iter_mut() {
+        *command = (near(seed, 5) % 256) as u8;
     }
 }
 
 // Writes its place into each word of a list.
 pub fn number_words(list: &mut Book) {
-    let mut i = 0u32;
-    while i < 5057 {
+    for i in 0..5057 {
         list[i as usize] = i;
-        i += 1;
     }
 }
 
 // Fills a list with random words.
 pub fn fill_words(seed: &mut u64, list: &mut Book) {
-    let mut i = 0usize;
-    while i < book::BOOK {
-        list[i] = any_word(seed);
-        i += 1;
+    for word in list.iter_mut() {
+        *word = any_word(seed);
     }
 }

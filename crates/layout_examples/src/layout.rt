@@ -24,65 +24,32 @@ pub fn place(i: usize) -> usize {
 
 // Writes a book by node into another list by command.
 pub fn turn(from: &Book, out: &mut Book) {
-    let mut i = 0usize;
-    while i < book::BOOK {
+    for (i, word) in from.iter().enumerate() {
         let p = place(i);
         if p < book::BOOK {
-            out[p] = from[i];
+            out[p] = *word;
         }
-        i += 1;
     }
 }
 
-// The word at a place of a list; 0 outside.
-fn word(list: &[u32], i: usize) -> u32 {
-    if i < list.len() { list[i] } else { 0 }
-}
-
-// How many words of a list are not in another at the places where its layout has them, or where they were.
-fn compare(one: &[u32], other: &[u32], turned: bool) -> u32 {
-    let mut count = 0u32;
-    let mut i = 0usize;
-    while i < one.len() {
-        let p = if turned { place(i) } else { i };
-        if one[i] != word(other, p) {
-            count = count % 100000 + 1;
-        }
-        i += 1;
-    }
-    count
-}
-
-// How many words two lists have different.
-pub fn different(one: &[u32], other: &[u32]) -> u32 {
+// How many items two lists have different.
+pub fn different<T: PartialEq>(one: &[T], other: &[T]) -> u64 {
     if one.len() != other.len() {
         return 99999;
     }
-    compare(one, other, false)
+    one.iter().zip(other).filter(|(a, b)| a != b).count() as u64
 }
 
 // How many words of a book by node are not where they stand by command in another list. Lists of another length are to be the same.
-pub fn apart(one: &[u32], other: &[u32]) -> u32 {
-    if one.len() != other.len() {
-        return 99999;
+pub fn apart(one: &[u32], other: &[u32]) -> u64 {
+    if one.len() != book::BOOK || other.len() != book::BOOK {
+        return different(one, other);
     }
-    compare(one, other, one.len() == book::BOOK)
-}
-
-// How many bytes two lists have different.
-pub fn different_bytes(one: &[u8], other: &[u8]) -> u32 {
-    if one.len() != other.len() {
-        return 99999;
-    }
-    let mut count = 0u32;
-    let mut i = 0usize;
-    while i < one.len() {
-        if i < other.len() {
-            if one[i] != other[i] {
-                count = count % 100000 + 1;
-            }
+    let mut count = 0u64;
+    for (i, word) in one.iter().enumerate() {
+        if other.get(place(i)) != Some(word) {
+            count = count.saturating_add(1);
         }
-        i += 1;
     }
     count
 }

@@ -16,20 +16,15 @@ use calls::{
     show_steps, show_walkers,
 };
 use layout::{Book, Sheet, turn};
-use tally::{Tally, line, show, text};
+use tally::{NOTHING, Tally, line, show};
+use trying::{MAST, text};
 
 // The mast book, loaded on both layouts; by command it is then the program's own turn of the book by node.
 fn load_mast(book: &mut Book, other: &mut Book, sheet: &mut Sheet, second: &mut Sheet) {
     show(b"open fresh:", both::open_fresh(book, other, sheet, second));
     show(
         b"load the mast book:",
-        both::load(
-            book,
-            other,
-            sheet,
-            second,
-            b"\x10\x00\x00\x00\x11\x00\x00\x01\x11\x00\x00\x02\x12\x00\x01\x01\x00\x0A\x11\x01\x00\x0B\x14\x00\x00\x00\x00\x01\x00\x05\x14\x00\x00\x02\x00\x02\x00\x14\x14\x00\x01\x01\x00\x02\x00\x03\x14\x00\x02\x00\x00\x00\x00\x07\x14\x00\x0A\x01\x00\x0A\x00\x01\x14\x00\x0A\x02\x00\x0B\x00\x04",
-        ),
+        both::load(book, other, sheet, second, &MAST),
     );
     turn(book, other);
 }
@@ -58,33 +53,29 @@ fn examples(mast: &Book, turned: &Book, marked: &Sheet) {
 // A line for each call: how often it answered each number, and how much was different by command.
 fn show_tally(tally: &Tally) {
     text(b"random, torn and short books, how often each number was answered:\n");
-    line(b"open fresh", tally, tally::FRESH);
-    line(b"open ladder", tally, tally::LADDER);
-    line(b"open from a table", tally, tally::TABLE);
-    line(b"load", tally, tally::LOAD);
-    line(b"exit", tally, tally::EXIT);
-    line(b"step", tally, tally::STEP);
-    line(b"plan", tally, tally::PLAN);
-    line(b"write", tally, tally::WRITE);
-    line(b"choice", tally, tally::CHOICE);
-    line(b"choose", tally, tally::CHOOSE);
-    line(b"merge", tally, tally::MERGE);
-    line(b"open walkers", tally, tally::OPEN_WALKERS);
-    line(b"walk", tally, tally::WALK);
+    line(b"open fresh", &tally.fresh);
+    line(b"open ladder", &tally.ladder);
+    line(b"open from a table", &tally.table);
+    line(b"load", &tally.load);
+    line(b"exit", &tally.exit);
+    line(b"step", &tally.step);
+    line(b"plan", &tally.plan);
+    line(b"write", &tally.write);
+    line(b"choice", &tally.choice);
+    line(b"choose", &tally.choose);
+    line(b"merge", &tally.merge);
+    line(b"open walkers", &tally.open_walkers);
+    line(b"walk", &tally.walk);
 }
 
 // Random books, torn ones, and lists of other lengths.
 fn compare_random(mast: &Book, turned: &Book) {
     let mut seed = 20250209u64;
-    let mut tally = [0u32; 416];
-    let mut i = 0u32;
-    while i < 40 {
+    let mut tally = NOTHING;
+    for i in 0..40 {
         random::run_book(i % 4 == 3, mast, turned, &mut seed, &mut tally);
-        i += 1;
     }
-    random::run_none(mast, turned, &mut seed, &mut tally);
-    random::run_short(mast, turned, &mut seed, &mut tally);
-    random::run_sheet(mast, turned, &mut seed, &mut tally);
+    random::run_wrong(mast, turned, &mut seed, &mut tally);
     show_tally(&tally);
 }
 

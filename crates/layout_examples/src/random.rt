@@ -1,41 +1,20 @@
 // Every call on random books, on torn ones and on lists of other lengths, by node and by command.
-use crate::both::Both;
-use crate::chance::{Stream, any_word, draw, fill, make, near, once_in};
+ghost use Rattle.std.specs.Prelude.{◌<◌};
+
+use crate::both;
+use crate::chance::{Stream, any_word, fill, make, near};
 use crate::layout::{Book, Sheet, turn};
 use crate::tally::{Tally, count};
-use crate::{both, tally};
+use trying::{draw, once_in};
 
-// A load of so many bytes of a stream.
-fn load_front(
-    book: &mut Book,
-    other: &mut Book,
-    sheet: &mut Sheet,
-    second: &mut Sheet,
-    stream: &[u8],
-    length: usize,
-) -> Both {
-    if stream.len() < length {
-        return both::load(book, other, sheet, second, stream);
-    }
-    both::load(book, other, sheet, second, &stream[..length])
-}
+// The lengths of a book and of a sheet, and of those that are a word short.
+const WHOLE_BOOK: usize = book::BOOK;
 
-// The same, counted.
-fn load_made(
-    book: &mut Book,
-    other: &mut Book,
-    sheet: &mut Sheet,
-    second: &mut Sheet,
-    stream: &Stream,
-    length: usize,
-    tally: &mut Tally,
-) {
-    count(
-        tally,
-        tally::LOAD,
-        load_front(book, other, sheet, second, stream, length),
-    );
-}
+const SHORT_BOOK: usize = book::BOOK - 1;
+
+const WHOLE_SHEET: usize = sheet::SHEET;
+
+const SHORT_SHEET: usize = sheet::SHEET - 1;
 
 // A random stream.
 fn load_any(
@@ -47,8 +26,11 @@ fn load_any(
     tally: &mut Tally,
 ) {
     let mut stream = [0u8; 32];
-    let length = make(seed, &mut stream);
-    load_made(book, other, sheet, second, &stream, length, tally);
+    let length = make(seed, &mut stream).min(32);
+    count(
+        &mut tally.load,
+        both::load(book, other, sheet, second, &stream[..length]),
+    );
 }
 
 // A node of a book by node that is in use, or a state; where none is found, and now and then, any number.
@@ -56,8 +38,7 @@ fn pick(book: &[u32], seed: &mut u64, plain: bool) -> u32 {
     if once_in(seed, 12) {
         return draw(seed, 300);
     }
-    let mut i = 0u32;
-    while i < 90 {
+    for _ in 0..90 {
         let n = draw(seed, 64) % 64;
         let at = 129 + 18 * (n as usize);
         if at + 1 < book.len() {
@@ -65,7 +46,6 @@ fn pick(book: &[u32], seed: &mut u64, plain: bool) -> u32 {
                 return n;
             }
         }
-        i += 1;
     }
     draw(seed, 64)
 }
@@ -85,8 +65,8 @@ fn ask(book: &[u32], other: &[u32], sheet: &[u32], seed: &mut u64, tally: &mut T
     let mut second = [0u8; 32];
     fill(seed, &mut first);
     fill(seed, &mut second);
-    count(tally, tally::EXIT, both::exit(book, other, sheet, m, x));
-    count(tally, tally::STEP, both::step(book, other, a, x));
+    count(&mut tally.exit, both::exit(book, other, sheet, m, x));
+    count(&mut tally.step, both::step(book, other, a, x));
     choose(book, other, a, b, &first, &second, tally);
 }
 
@@ -101,13 +81,11 @@ fn choose<'a>(
     tally: &mut Tally,
 ) {
     count(
-        tally,
-        tally::CHOICE,
+        &mut tally.choice,
         both::choice(book, other, a, b, first, second),
     );
     count(
-        tally,
-        tally::CHOOSE,
+        &mut tally.choose,
         both::choose(book, other, a, b, first, second),
     );
 }
@@ -116,39 +94,34 @@ fn choose<'a>(
 fn put(book: &[u32], other: &[u32], sheet: &[u32], seed: &mut u64, tally: &mut Tally) {
     let a = state(book, seed);
     let b = state(book, seed);
-    let mut buffer = [255u8; 255];
-    let mut second = [255u8; 255];
-    count(
-        tally,
-        tally::PLAN,
-        both::plan(book, other, sheet, a, b, &mut buffer, &mut second),
-    );
-    let mut out = [255u8; 4000];
-    let mut again = [255u8; 4000];
-    count(
-        tally,
-        tally::WRITE,
-        both::write(book, other, &mut out, &mut again),
-    );
+    put_into::<255, 4000>(book, other, sheet, a, b, tally);
     if once_in(seed, 4) {
-        put_short(book, other, sheet, a, b, tally);
+        put_into::<6, 60>(book, other, sheet, a, b, tally);
     }
 }
 
-// The same with outputs of 6 and 60 bytes.
-fn put_short(book: &[u32], other: &[u32], sheet: &[u32], a: u32, b: u32, tally: &mut Tally) {
-    let mut buffer = [255u8; 6];
-    let mut second = [255u8; 6];
+// Plan from a to b, and Write, with outputs of so many bytes.
+fn put_into<const PLAN: usize, const STREAM: usize>(
+    book: &[u32],
+    other: &[u32],
+    sheet: &[u32],
+    a: u32,
+    b: u32,
+    tally: &mut Tally,
+)
+    requires plan { PLAN < 65536 }
+    requires stream { STREAM < 65536 }
+{
+    let mut buffer = [255u8; PLAN];
+    let mut second = [255u8; PLAN];
     count(
-        tally,
-        tally::PLAN,
+        &mut tally.plan,
         both::plan(book, other, sheet, a, b, &mut buffer, &mut second),
     );
-    let mut out = [255u8; 60];
-    let mut again = [255u8; 60];
+    let mut out = [255u8; STREAM];
+    let mut again = [255u8; STREAM];
     count(
-        tally,
-        tally::WRITE,
+        &mut tally.write,
         both::write(book, other, &mut out, &mut again),
     );
 }
@@ -160,15 +133,13 @@ fn walk(book: &[u32], other: &[u32], seed: &mut u64, tally: &mut Tally) {
     let mut walkers = [state(book, seed), state(book, seed), state(book, seed)];
     let mut second = walkers;
     count(
-        tally,
-        tally::OPEN_WALKERS,
+        &mut tally.open_walkers,
         both::open_walkers(book, other, n, k, &walkers),
     );
     let w = near(seed, 3);
     let x = near(seed, 5);
     count(
-        tally,
-        tally::WALK,
+        &mut tally.walk,
         both::walk(book, other, n, k, &mut walkers, &mut second, w, x),
     );
 }
@@ -187,8 +158,7 @@ fn merge(book: &[u32], other: &[u32], mast: &Book, turned: &Book, tally: &mut Ta
     let mut sheet = [7u32; sheet::SHEET];
     let mut second = [7u32; sheet::SHEET];
     count(
-        tally,
-        tally::MERGE,
+        &mut tally.merge,
         both::merge(
             book,
             other,
@@ -201,8 +171,7 @@ fn merge(book: &[u32], other: &[u32], mast: &Book, turned: &Book, tally: &mut Ta
         ),
     );
     count(
-        tally,
-        tally::MERGE,
+        &mut tally.merge,
         both::merge(
             mast,
             turned,
@@ -226,12 +195,11 @@ fn open_any(
     tally: &mut Tally,
 ) {
     let mut rows = [0u32; 27];
-    ladders::ladder(2, &mut rows);
+    let _ = ladders::ladder(2, &mut rows);
     let i = (draw(seed, 27) % 27) as usize;
     rows[i] = near(seed, 3);
     count(
-        tally,
-        tally::TABLE,
+        &mut tally.table,
         both::open_table(&rows, book, other, sheet, second),
     );
 }
@@ -245,13 +213,11 @@ fn open_both(
     tally: &mut Tally,
 ) {
     count(
-        tally,
-        tally::FRESH,
+        &mut tally.fresh,
         both::open_fresh(book, other, sheet, second),
     );
     count(
-        tally,
-        tally::LADDER,
+        &mut tally.ladder,
         both::open_ladder(book, other, sheet, second),
     );
 }
@@ -267,8 +233,7 @@ fn merge_into(
     tally: &mut Tally,
 ) {
     count(
-        tally,
-        tally::MERGE,
+        &mut tally.merge,
         both::merge(mast, turned, mast, turned, book, other, sheet, second),
     );
 }
@@ -351,9 +316,9 @@ fn on_copy(
 // Opens a book by node: the ladder, or fresh and with the machines 1, 2 and 3 one below the other.
 fn open(book: &mut Book, sheet: &mut Sheet, ladder: bool) {
     if ladder {
-        opening::open_ladder(book, sheet);
+        let _ = opening::open_ladder(book, sheet);
     } else {
-        opening::open_fresh(book, sheet);
+        let _ = opening::open_fresh(book, sheet);
         loading::load(
             book,
             sheet,
@@ -371,8 +336,7 @@ fn refresh(
     tally: &mut Tally,
 ) {
     count(
-        tally,
-        tally::LOAD,
+        &mut tally.load,
         both::load(book, other, sheet, second, b"\x18"),
     );
 }
@@ -400,24 +364,31 @@ pub fn run_book(ladder: bool, mast: &Book, turned: &Book, seed: &mut u64, tally:
     open(&mut book, &mut sheet, ladder);
     turn(&book, &mut other);
     let mut second = sheet;
-    let mut i = 0u32;
-    while i < 64 {
+    for i in 0..64 {
         load_any(&mut book, &mut other, &mut sheet, &mut second, seed, tally);
         if i % 4 == 3 {
             load_last(&mut book, &mut other, &mut sheet, &mut second, seed, tally);
             on_copy(&book, &sheet, false, mast, turned, seed, tally);
             on_copy(&book, &sheet, true, mast, turned, seed, tally);
         }
-        i += 1;
     }
 }
 
-// Every call on books without words.
-pub fn run_none(mast: &Book, turned: &Book, seed: &mut u64, tally: &mut Tally) {
-    let mut book = [0u32; 0];
-    let mut other = [0u32; 0];
-    let mut sheet = [0u32; sheet::SHEET];
-    let mut second = [0u32; sheet::SHEET];
+// Every call on a book and a sheet of these lengths, in both layouts, whose words are all the same.
+fn run_lengths<const BOOK: usize, const SHEET: usize>(
+    word: u32,
+    mast: &Book,
+    turned: &Book,
+    seed: &mut u64,
+    tally: &mut Tally,
+)
+    requires book { BOOK < 65536 }
+    requires sheet { SHEET < 65536 }
+{
+    let mut book = [word; BOOK];
+    let mut other = [word; BOOK];
+    let mut sheet = [0u32; SHEET];
+    let mut second = [0u32; SHEET];
     read_calls(&book, &other, &sheet, seed, tally);
     merge(&book, &other, mast, turned, tally);
     refresh(&mut book, &mut other, &mut sheet, &mut second, tally);
@@ -433,44 +404,9 @@ pub fn run_none(mast: &Book, turned: &Book, seed: &mut u64, tally: &mut Tally) {
     );
 }
 
-// The same on books that are a word short.
-pub fn run_short(mast: &Book, turned: &Book, seed: &mut u64, tally: &mut Tally) {
-    let mut book = [65535u32; book::BOOK - 1];
-    let mut other = [65535u32; book::BOOK - 1];
-    let mut sheet = [0u32; sheet::SHEET];
-    let mut second = [0u32; sheet::SHEET];
-    read_calls(&book, &other, &sheet, seed, tally);
-    merge(&book, &other, mast, turned, tally);
-    refresh(&mut book, &mut other, &mut sheet, &mut second, tally);
-    write_calls(
-        &mut book,
-        &mut other,
-        &mut sheet,
-        &mut second,
-        mast,
-        turned,
-        seed,
-        tally,
-    );
-}
-
-// The same with sheets that are a word short.
-pub fn run_sheet(mast: &Book, turned: &Book, seed: &mut u64, tally: &mut Tally) {
-    let mut book = [0u32; book::BOOK];
-    let mut other = [0u32; book::BOOK];
-    let mut sheet = [0u32; sheet::SHEET - 1];
-    let mut second = [0u32; sheet::SHEET - 1];
-    read_calls(&book, &other, &sheet, seed, tally);
-    merge(&book, &other, mast, turned, tally);
-    refresh(&mut book, &mut other, &mut sheet, &mut second, tally);
-    write_calls(
-        &mut book,
-        &mut other,
-        &mut sheet,
-        &mut second,
-        mast,
-        turned,
-        seed,
-        tally,
-    );
+// Every call on books without words, on books that are a word short, and with sheets that are a word short.
+pub fn run_wrong(mast: &Book, turned: &Book, seed: &mut u64, tally: &mut Tally) {
+    run_lengths::<0, WHOLE_SHEET>(0, mast, turned, seed, tally);
+    run_lengths::<SHORT_BOOK, WHOLE_SHEET>(65535, mast, turned, seed, tally);
+    run_lengths::<WHOLE_BOOK, SHORT_SHEET>(0, mast, turned, seed, tally);
 }

@@ -1,105 +1,91 @@
 // What was counted of each call, and what is written.
-use crate::both::Both;
+use crate::both::{Both, Values};
+use trying::{number, say, say_counts, say_no, status, text};
 
-// The descriptor of standard output.
-const STDOUT_FILENO: i32 = 1;
-
-// The calls, and behind them their number.
-pub const FRESH: u32 = 0;
-
-pub const LADDER: u32 = 1;
-
-pub const TABLE: u32 = 2;
-
-pub const LOAD: u32 = 3;
-
-pub const EXIT: u32 = 4;
-
-pub const STEP: u32 = 5;
-
-pub const PLAN: u32 = 6;
-
-pub const WRITE: u32 = 7;
-
-pub const CHOICE: u32 = 8;
-
-pub const CHOOSE: u32 = 9;
-
-pub const MERGE: u32 = 10;
-
-pub const OPEN_WALKERS: u32 = 11;
-
-pub const WALK: u32 = 12;
-
-const CALLS: u32 = 13;
-
-// For each call 32 places: how often each number was answered, and at the last the differences.
-pub type Tally = [u32; 416];
-
-const DIFFERENCES: u32 = 31;
-
-// The count of a call at a place.
-fn get(tally: &Tally, call: u32, k: u32) -> u32 {
-    if call >= CALLS {
-        return 0;
-    }
-    if k >= 32 {
-        return 0;
-    }
-    tally[32 * (call as usize) + k as usize]
+// How often a call answered 0 and each refusal, and how much was different by command.
+#[derive(Clone, Copy)]
+pub struct Counts {
+    answered: [u64; 31],
+    different: u64,
 }
 
-// Counts so many more of a call at a place.
-fn add(tally: &mut Tally, call: u32, k: u32, more: u32) {
-    let sum = get(tally, call, k) % 1000000000 + more % 1000000000;
-    if call >= CALLS {
-        return;
-    }
-    if k < 32 {
-        tally[32 * (call as usize) + k as usize] = sum;
-    }
+// Nothing counted.
+pub const NONE: Counts = Counts {
+    answered: [0; 31],
+    different: 0,
+};
+
+// The counts of the calls.
+#[derive(Clone, Copy)]
+pub struct Tally {
+    pub fresh: Counts,
+    pub ladder: Counts,
+    pub table: Counts,
+    pub load: Counts,
+    pub exit: Counts,
+    pub step: Counts,
+    pub plan: Counts,
+    pub write: Counts,
+    pub choice: Counts,
+    pub choose: Counts,
+    pub merge: Counts,
+    pub open_walkers: Counts,
+    pub walk: Counts,
 }
+
+// No call counted.
+pub const NOTHING: Tally = Tally {
+    fresh: NONE,
+    ladder: NONE,
+    table: NONE,
+    load: NONE,
+    exit: NONE,
+    step: NONE,
+    plan: NONE,
+    write: NONE,
+    choice: NONE,
+    choose: NONE,
+    merge: NONE,
+    open_walkers: NONE,
+    walk: NONE,
+};
 
 // Counts a call that was made on both layouts.
-pub fn count(tally: &mut Tally, call: u32, both: Both) {
-    add(tally, call, both.number % 31, 1);
-    add(tally, call, DIFFERENCES, both.different);
+pub fn count(count: &mut Counts, both: Both) {
+    let k = (status(both.refusal) % 31) as usize;
+    count.answered[k] = count.answered[k].saturating_add(1);
+    count.different = count.different.saturating_add(both.different);
 }
 
-// Writes a text.
-pub fn text(t: &[u8]) {
-    io::write_all(STDOUT_FILENO, t);
-}
-
-// Writes a space and a number.
-pub fn number(n: u32) {
-    text(b" ");
-    io::print_decimal(STDOUT_FILENO, n as u64);
-}
-
-// Writes a text and a number after it.
-pub fn say(t: &[u8], n: u32) {
-    text(t);
-    number(n);
+// Writes the values of an answer.
+fn show_values(values: Values) {
+    match values {
+        Values::Zero => {}
+        Values::One(a) => number(a),
+        Values::Two(a, b) => {
+            number(a);
+            number(b);
+        }
+        Values::Three(a, b, c) => {
+            number(a);
+            number(b);
+            number(c);
+        }
+    }
 }
 
 // Writes a text and what a call answered: `no` and the refusal, its values, or 0 where it has none; and whether it is the same by command.
 pub fn show(t: &[u8], both: Both) {
     text(t);
-    if both.number != 0 {
-        say(b" no", both.number);
-    } else if both.values == 0 {
-        number(0);
+    match both.refusal {
+        Some(refusal) => say_no(refusal),
+        None => {
+            if both.values == Values::Zero {
+                number(0u32);
+            }
+        }
     }
-    if both.values > 0 {
-        number(both.a);
-    }
-    if both.values > 1 {
-        number(both.b);
-    }
-    if both.values > 2 {
-        number(both.c);
-    }
+    show_values(both.values);
     if both.different == 0 {
         text(b", same\n");
     } else {
@@ -109,19 +95,10 @@ pub fn show(t: &[u8], both: Both) {
 }
 
 // The line of a call: how often it answered 0 and each refusal, and the differences.
-pub fn line(name: &[u8], tally: &Tally, call: u32) {
+pub fn line(name: &[u8], count: &Counts) {
     text(name);
     text(b":");
-    let mut k = 0u32;
-    while k < 31 {
-        let times = get(tally, call, k);
-        if times != 0 {
-            number(k);
-            text(b":");
-            io::print_decimal(STDOUT_FILENO, times as u64);
-        }
-        k += 1;
-    }
-    say(b", different", get(tally, call, DIFFERENCES));
+    say_counts(&count.answered);
+    say(b", different", count.different);
     text(b"\n");
 }

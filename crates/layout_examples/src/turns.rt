@@ -1,13 +1,14 @@
 // Turning (document 02, W-209): the mast book's words at their places by command, lists turned there and back, and what the turns refuse.
 use crate::chance::{fill_words, number_words};
 use crate::layout::{Book, apart, different};
-use crate::tally::{say, text};
+use refusals::Refusal;
+use trying::{say, status, text};
 
 // Writes a text and the word at a place.
 fn show_word(t: &[u8], list: &Book, i: usize) {
     if i < book::BOOK {
         text(t);
-        say(b", at", (i % 65536) as u32);
+        say(b", at", i as u64);
         say(b":", list[i]);
         text(b"\n");
     }
@@ -16,7 +17,7 @@ fn show_word(t: &[u8], list: &Book, i: usize) {
 // Where the words of the mast book stand by command.
 pub fn show_places(mast: &Book) {
     let mut list = [7u32; book::BOOK];
-    turning::by_command(mast, &mut list);
+    let _ = turning::by_command(mast, &mut list);
     show_word(b"node 0, command 0, to 1 for 5", &list, 0);
     show_word(b"node 2, command 0, to 0 for 7", &list, 2);
     show_word(b"node 1, command 1, to 2 for 3", &list, 257);
@@ -43,17 +44,22 @@ fn show_others(list: &Book) {
     show_word(b"leaving charge of machine 1", list, 4994);
 }
 
+// Writes a text and the number that a turn refuses with, or 0.
+fn say_turn(t: &[u8], answer: Result<(), Refusal>) {
+    say(t, status(answer.err()));
+}
+
 // Turns a list there and back, both ways round: the numbers, the words that are not where the program's own turn has them, and those changed.
 fn show_back(t: &[u8], list: &Book) {
     let mut there = [7u32; book::BOOK];
     let mut back = [7u32; book::BOOK];
     text(t);
-    say(b" by command", turning::by_command(list, &mut there));
-    say(b", back", turning::by_node(&there, &mut back));
+    say_turn(b" by command", turning::by_command(list, &mut there));
+    say_turn(b", back", turning::by_node(&there, &mut back));
     say(b", misplaced", apart(list, &there));
     say(b", changed", different(list, &back));
-    say(b"; by node", turning::by_node(list, &mut there));
-    say(b", back", turning::by_command(&there, &mut back));
+    say_turn(b"; by node", turning::by_node(list, &mut there));
+    say_turn(b", back", turning::by_command(&there, &mut back));
     say(b", misplaced", apart(&there, list));
     say(b", changed", different(list, &back));
     text(b"\n");
@@ -75,45 +81,31 @@ pub fn show_turns(mast: &Book) {
 }
 
 // Both turns of one list into another, and how many words of that are not as they were before.
-fn show_turn(t: &[u8], from: &[u32], out: &mut [u32], before: &[u32]) {
+fn show_turn<const N: usize>(t: &[u8], from: &[u32], before: &[u32; N]) {
+    let mut out = *before;
     text(t);
-    say(b" by command", turning::by_command(from, out));
-    say(b", written", different(out, before));
-    say(b"; by node", turning::by_node(from, out));
-    say(b", written", different(out, before));
+    say_turn(b" by command", turning::by_command(from, &mut out));
+    say(b", written", different(&out, before));
+    say_turn(b"; by node", turning::by_node(from, &mut out));
+    say(b", written", different(&out, before));
     text(b"\n");
 }
 
 // Lists of wrong lengths are refused; what stands in them is not judged.
 pub fn refuse_turns() {
-    let none = [0u32; 0];
     let short = [0u32; book::BOOK - 1];
     let right = [0u32; book::BOOK];
     let long = [0u32; book::BOOK + 1];
+    let less = [7u32; book::BOOK - 1];
     let before = [7u32; book::BOOK];
-    let mut out = before;
-    show_turn(b"from no words:", &none, &mut out, &before);
-    show_turn(b"from a word less:", &short, &mut out, &before);
-    show_turn(b"from a word more:", &long, &mut out, &before);
-    show_turn(b"from zeros:", &right, &mut out, &before);
-    refuse_into(&none, &short, &right, &long);
-}
-
-// Wrong lengths of the list that is written.
-fn refuse_into(
-    none: &[u32; 0],
-    short: &[u32; book::BOOK - 1],
-    right: &Book,
-    long: &[u32; book::BOOK + 1],
-) {
-    let mut empty = [7u32; 0];
-    show_turn(b"into no words:", right, &mut empty, none);
-    let mut less = [7u32; book::BOOK - 1];
-    let less_before = [7u32; book::BOOK - 1];
-    show_turn(b"into a word less:", right, &mut less, &less_before);
-    show_turn(b"both a word less:", short, &mut less, &less_before);
-    let mut more = [7u32; book::BOOK + 1];
-    let more_before = [7u32; book::BOOK + 1];
-    show_turn(b"into a word more:", right, &mut more, &more_before);
-    show_turn(b"both a word more:", long, &mut more, &more_before);
+    let more = [7u32; book::BOOK + 1];
+    show_turn(b"from no words:", &[], &before);
+    show_turn(b"from a word less:", &short, &before);
+    show_turn(b"from a word more:", &long, &before);
+    show_turn(b"from zeros:", &right, &before);
+    show_turn(b"into no words:", &right, &[7u32; 0]);
+    show_turn(b"into a word less:", &right, &less);
+    show_turn(b"both a word less:", &short, &less);
+    show_turn(b"into a word more:", &right, &more);
+    show_turn(b"both a word more:", &long, &more);
 }

@@ -21,10 +21,10 @@ use Rattle.definitions.specs.Session.{stream, plan, plan_size, read_plan, reques
 use Rattle.definitions.proofs.Options.{none_some}
 use Rattle.definitions.proofs.Streams.{ended_refused, next_nothing, next_taken, next_refused, next_ended, next_size, read_taken, load_end, load_refused, load_taken}
 use Rattle.loading.specs.Loading.{TookNext, Stays}
-use Rattle.lines.specs.Turn.{Takes, here, on, end, finishes, stops, plans}
+use Rattle.lines.specs.Turn.{Takes, here, on, finishes, stops, plans}
 use Rattle.lines.specs.Meaning.{PlanWritten, Taken, Halted, TurnFits, Stopped, AnsweredAt, TurnSays}
-use Rattle.lines.specs.declared.Turn.{Turn}
-use Rattle.lines.specs.declared.Turn.TheVariants.{Line, End}
+use Rattle.lines.specs.declared.Line.{Line}
+use Rattle.std.proofs.Common.{Option, Some, None}
 
 -- ---- what stands next in the input
 
@@ -115,19 +115,19 @@ taken_halts {input} {b} {s} {at} {to} {b'} {s'} before {k} stays =
 -- ---- what is given where they end
 
 -- what lies further on than an offset lies further on than one before it
-fits_earlier : (input : List ℕ) {at to : ℕ} (list : List ℕ) (turn : Turn) (list' : List ℕ) → at ≤ to → TurnFits input to list turn list' → TurnFits input at list turn list'
-fits_earlier input list (Line size next) list' before fits = (omega arith, fits.1, fits.2, fits.3)
-fits_earlier input list End list' before fits = fits
+fits_earlier : (input : List ℕ) {at to : ℕ} (list : List ℕ) (turn : Option Line) (list' : List ℕ) → at ≤ to → TurnFits input to list turn list' → TurnFits input at list turn list'
+fits_earlier input list (Some l) list' before fits = (omega arith, fits.1, fits.2, fits.3)
+fits_earlier input list None list' before fits = fits
 
 -- the line of a refused command is given where the command stands
-stopped_answers : {input b s : List ℕ} {at k : ℕ} {list : List ℕ} {turn : Turn} {list' : List ℕ}
+stopped_answers : {input b s : List ℕ} {at k : ℕ} {list : List ℕ} {turn : Option Line} {list' : List ℕ}
     → request (tree_of b) (drop at input) ≡ stream (refused k) → Stopped input at k list turn list' → AnsweredAt input b s at list turn list'
 stopped_answers {k = k} e stopped = record { gives = rw stopped.given (stops k e); fits = stopped.fits }
 
 -- a plan that stands at an offset
 module _ {input b s : List ℕ} {at : ℕ} {list : List ℕ} (inside : at < length input) (is : byte_at input at ≡ 0x19) where
   -- it is cut short
-  pub plan_cut : length input - at < plan_size → {turn : Turn} {list' : List ℕ} → Stopped input at 4 list turn list'
+  pub plan_cut : length input - at < plan_size → {turn : Option Line} {list' : List ℕ} → Stopped input at 4 list turn list'
       → AnsweredAt input b s at list turn list'
   plan_cut short stopped =
       let rest = drop (at + 1) input in
@@ -136,7 +136,7 @@ module _ {input b s : List ℕ} {at : ℕ} {list : List ℕ} (inside : at < leng
 
   -- its line is given
   pub plan_whole : plan_size ≤ length input - at → {x y size : ℕ} {list' : List ℕ} → x ≡ pair_at (drop (at + 1) input) 0
-      → y ≡ pair_at (drop (at + 1) input) 2 → PlanWritten b s x y list size list' → AnsweredAt input b s at list (Line size (at + plan_size)) list'
+      → y ≡ pair_at (drop (at + 1) input) 2 → PlanWritten b s x y list size list' → AnsweredAt input b s at list (Some (record { size = size; next = at + plan_size })) list'
   plan_whole whole {x} {y} from to written =
       let rest = drop (at + 1) input in
       let e : request (tree_of b) (drop at input) ≡ plan x y =
@@ -159,7 +159,7 @@ module _ {input b s : List ℕ} {at to k : ℕ} {b' s' : List ℕ} (halted : Hal
           absurd (ended_refused end (halted.refuses other))
 
   -- the end
-  pub says_end : k ≡ 0 → (list : List ℕ) → TurnSays input b s at list End b' s' list
+  pub says_end : k ≡ 0 → (list : List ℕ) → TurnSays input b s at list None b' s' list
   says_end done list =
       let empty = next_ended (tree_of b') (drop to input) (halted.ends done) in
       record {
@@ -170,7 +170,7 @@ module _ {input b s : List ℕ} {at to k : ℕ} {b' s' : List ℕ} (halted : Hal
       }
 
   -- what is given at the offset where they end
-  pub says_answered : {list : List ℕ} {turn : Turn} {list' : List ℕ} → AnsweredAt input b' s' to list turn list'
+  pub says_answered : {list : List ℕ} {turn : Option Line} {list' : List ℕ} → AnsweredAt input b' s' to list turn list'
       → TurnSays input b s at list turn b' s' list'
   says_answered {list} {turn} {list'} given =
       record {
@@ -181,7 +181,7 @@ module _ {input b s : List ℕ} {at to k : ℕ} {b' s' : List ℕ} (halted : Hal
       }
 
   -- a refused command
-  pub says_stopped : (k ≡ 0 → ⊥) → (byte_at input to ≡ 0x19 → ⊥) → {list : List ℕ} {turn : Turn} {list' : List ℕ} → Stopped input to k list turn list'
+  pub says_stopped : (k ≡ 0 → ⊥) → (byte_at input to ≡ 0x19 → ⊥) → {list : List ℕ} {turn : Option Line} {list' : List ℕ} → Stopped input to k list turn list'
       → TurnSays input b s at list turn b' s' list'
   says_stopped refuses other stopped =
       let inside = refused_inside refuses in

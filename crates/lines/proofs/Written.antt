@@ -54,11 +54,6 @@ pub numbers_on : {list : List ℕ} {at : ℕ} (bytes : List ℕ) (i : ℕ) {p : 
 numbers_on bytes i less before same more =
     stored_is (stored_then before more) (ap (λ (k : ℕ). numbers (take i bytes) ++ (32 ∷ decimal k)) same ∙ sym (numbers_next bytes i less))
 
--- all of them
-pub numbers_all : {list : List ℕ} {at : ℕ} (bytes : List ℕ) {i p : ℕ} {mid : List ℕ} → Stored list at (numbers (take i bytes)) p mid
-    → {count : ℕ} → i ≤ count → count ≤ i → Stored list at (numbers (take count bytes)) p mid
-numbers_all bytes {i} st {count} few many = let same : i ≡ count = omega arith in stored_is st (ap (λ (k : ℕ). numbers (take k bytes)) same)
-
 -- and how far they go, where each has at most w digits
 pub numbers_place : {list : List ℕ} {at : ℕ} (w : ℕ) (bytes : List ℕ) (i : ℕ) {p : ℕ} {mid : List ℕ} → i ≤ length bytes
     → ((j : ℕ) → length (decimal (get_or bytes j 0)) ≤ w) → Stored list at (numbers (take i bytes)) p mid → p ≤ at + i * suc w

@@ -1,6 +1,6 @@
 -- What the functions of this crate leave: numbers written in a row, a line at the front of a list, and a turn of the session on a book and its
 -- sheet.
-use Rattle.std.specs.Prelude.{◌≡◌, List, [], ◌∷◌, ◌++◌, ℕ, ◌+◌, ◌*◌, ◌≤◌, ◌<◌, length, take, drop}
+use Rattle.std.specs.Prelude.{◌≡◌, List, [], ◌∷◌, ◌++◌, ℕ, ◌+◌, ◌*◌, ◌≤◌, ◌<◌, length, take, drop, Option, Some, None}
 use Rattle.definitions.specs.Book.{tree_of, WellFormed}
 use Rattle.definitions.specs.Sheet.{rows_of}
 use Rattle.definitions.specs.Truth.{TrueSheet}
@@ -8,8 +8,7 @@ use Rattle.definitions.specs.Stream.{ended, refused}
 use Rattle.definitions.specs.Load.{next}
 use Rattle.definitions.specs.Session.{decimal, stop_line, PlanPrints}
 use Rattle.lines.specs.Turn.{Takes, Given, line, end, Gives, Turns}
-use Rattle.lines.specs.declared.Turn.{Turn}
-use Rattle.lines.specs.declared.Turn.TheVariants.{Line, End}
+use Rattle.lines.specs.declared.Line.{Line}
 
 -- room for every line: a cost of at most ten digits, then a count and 255 commands, each a space and at most three digits, then a newline
 abbrev pub longest_line : ℕ
@@ -47,28 +46,28 @@ pub record Halted (input book sheet : List ℕ) (at to number : ℕ) (book' shee
   pub refuses : (number ≡ 0 → ⊥) → next (tree_of book') (drop to input) ≡ refused number
 
 -- what a turn says is given, the line being the front of a list
-abbrev pub given_of : Turn → List ℕ → Given
-given_of (Line size next) list = line (take size list) next
-given_of End list = end
+abbrev pub given_of : Option Line → List ℕ → Given
+given_of (Some l) list = line (take l.size list) l.next
+given_of None list = end
 
 -- the line has room in the list, whose rest is untouched, and the offset to go on from lies further on in the input; at the end the list
 -- is untouched
-abbrev pub TurnFits : List ℕ → ℕ → List ℕ → Turn → List ℕ → Type 0
-TurnFits input at list (Line size next) list' = (at < next) × (next ≤ length input) × (size ≤ length list) × (drop size list' ≡ drop size list)
-TurnFits input at list End list' = list' ≡ list
+abbrev pub TurnFits : List ℕ → ℕ → List ℕ → Option Line → List ℕ → Type 0
+TurnFits input at list (Some l) list' = (at < l.next) × (l.next ≤ length input) × (l.size ≤ length list) × (drop l.size list' ≡ drop l.size list)
+TurnFits input at list None list' = list' ≡ list
 
 -- the line of a command refused at an offset is given, and nothing of the input is left
-pub record Stopped (input : List ℕ) (at number : ℕ) (list : List ℕ) (turn : Turn) (list' : List ℕ) : Type 0 where
+pub record Stopped (input : List ℕ) (at number : ℕ) (list : List ℕ) (turn : Option Line) (list' : List ℕ) : Type 0 where
   pub given : given_of turn list' ≡ line (stop_line number at) (length input)
   pub fits : TurnFits input at list turn list'
 
 -- what is given at an offset where no command is taken
-pub record AnsweredAt (input book sheet : List ℕ) (at : ℕ) (list : List ℕ) (turn : Turn) (list' : List ℕ) : Type 0 where
+pub record AnsweredAt (input book sheet : List ℕ) (at : ℕ) (list : List ℕ) (turn : Option Line) (list' : List ℕ) : Type 0 where
   pub gives : Gives input (tree_of book) (rows_of sheet) at (given_of turn list')
   pub fits : TurnFits input at list turn list'
 
 -- a turn of the session from an offset of its input on: what is given, and that the book is well formed again and the sheet true of it
-pub record TurnSays (input book sheet : List ℕ) (at : ℕ) (list : List ℕ) (turn : Turn) (book' sheet' list' : List ℕ) : Type 0 where
+pub record TurnSays (input book sheet : List ℕ) (at : ℕ) (list : List ℕ) (turn : Option Line) (book' sheet' list' : List ℕ) : Type 0 where
   pub formed : WellFormed book'
   pub filled : TrueSheet (tree_of book') sheet'
   pub turns : Turns input (tree_of book) (rows_of sheet) at (given_of turn list') (tree_of book') (rows_of sheet')

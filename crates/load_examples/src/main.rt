@@ -2,63 +2,46 @@
 // W-207), each refusal of a command is provoked, and sheets with one false word are refused.
 #![tactic(auto)]
 
-use exiting::ExitAnswer;
-
-// The descriptor of standard output.
-const STDOUT_FILENO: i32 = 1;
+use trying::{MAST, number, say_no, status, text};
 
 // A book and a sheet.
 type Book = [u32; book::BOOK];
 
 type Sheet = [u32; sheet::SHEET];
 
-// Writes a space and a number.
-fn number(n: u64) {
-    io::write_all(STDOUT_FILENO, b" ");
-    io::print_decimal(STDOUT_FILENO, n);
-}
-
-// The number in 64 bits.
-fn wide(n: usize) -> u64 {
-    n as u64
-}
-
-// Loads a stream and writes the bytes taken, the commands taken and the refusal.
-fn show_load(text: &[u8], book: &mut Book, sheet: &mut Sheet, stream: &[u8]) {
+// Loads a stream and writes the bytes taken, the commands taken and the number of the refusal, or 0.
+fn show_load(t: &[u8], book: &mut Book, sheet: &mut Sheet, stream: &[u8]) {
     let answer = loading::load(book, sheet, stream);
-    io::write_all(STDOUT_FILENO, text);
-    number(wide(answer.bytes));
-    number(wide(answer.commands));
-    number(answer.number as u64);
-    io::write_all(STDOUT_FILENO, b"\n");
+    text(t);
+    number(answer.bytes as u64);
+    number(answer.commands as u64);
+    number(status(answer.refusal));
+    text(b"\n");
 }
 
 // Writes an exit cost, or `no` and the refusal.
-fn show_exit(text: &[u8], book: &Book, sheet: &Sheet, machine: u32, command: u32) {
-    io::write_all(STDOUT_FILENO, text);
+fn show_exit(t: &[u8], book: &Book, sheet: &Sheet, machine: u32, command: u32) {
+    text(t);
     match exiting::exit(book, sheet, machine, command) {
-        ExitAnswer::Costs(c) => number(c as u64),
-        ExitAnswer::Refused(k) => {
-            io::write_all(STDOUT_FILENO, b" no");
-            number(k as u64);
-        }
+        Ok(cost) => number(cost),
+        Err(refusal) => say_no(refusal),
     }
-    io::write_all(STDOUT_FILENO, b"\n");
+    text(b"\n");
 }
 
 // Puts a false word into the sheet, asks for an exit cost, and puts the old word back.
-fn falsify(text: &[u8], book: &Book, sheet: &mut Sheet, at: usize, word: u32) {
+fn falsify(t: &[u8], book: &Book, sheet: &mut Sheet, at: usize, word: u32) {
     if at < sheet::SHEET {
         let kept = sheet[at];
         sheet[at] = word;
-        show_exit(text, book, sheet, 0, 0);
+        show_exit(t, book, sheet, 0, 0);
         sheet[at] = kept;
     }
 }
 
 // Opens fresh.
 fn open(book: &mut Book, sheet: &mut Sheet) {
-    opening::open_fresh(book, sheet);
+    let _ = opening::open_fresh(book, sheet);
 }
 
 // A name in another machine whose cost and transition give the right sum, and a circle of names that costs nothing.
@@ -106,12 +89,7 @@ fn nine_levels(book: &mut Book, sheet: &mut Sheet) {
 
 // The mast book loaded, refreshed, and asked for its exit costs.
 fn mast_book(book: &mut Book, sheet: &mut Sheet) {
-    show_load(
-        b"mast book:",
-        book,
-        sheet,
-        b"\x10\x00\x00\x00\x11\x00\x00\x01\x11\x00\x00\x02\x12\x00\x01\x01\x00\x0A\x11\x01\x00\x0B\x14\x00\x00\x00\x00\x01\x00\x05\x14\x00\x00\x02\x00\x02\x00\x14\x14\x00\x01\x01\x00\x02\x00\x03\x14\x00\x02\x00\x00\x00\x00\x07\x14\x00\x0A\x01\x00\x0A\x00\x01\x14\x00\x0A\x02\x00\x0B\x00\x04",
-    );
+    show_load(b"mast book:", book, sheet, &MAST);
     show_exit(b"exit while marked:", book, sheet, 1, 0);
     show_load(b"refresh:", book, sheet, b"\x18");
     show_exit(b"exit of 1 by 0:", book, sheet, 1, 0);

@@ -1,3 +1,2 @@
 pub mod Commands
 pub mod Turns
-pub mod Says

@@ -17,9 +17,7 @@ use Rattle.definitions.specs.Calls.{LoadAnswer, LoadDone}
 use Rattle.definitions.proofs.Words.{well_formed_words, marks_words}
 use Rattle.definitions.proofs.Streams.{read_ended, next_nothing, next_unread, next_refuses, next_takes, next_size}
 use Rattle.definitions.proofs.Streams.{load_end, load_refused, load_taken}
-use Rattle.loading.specs.Loading.{Done, TookNext, Stays, Turned, joined, Underway}
-use Rattle.loading.specs.declared.Turn.{Turn}
-use Rattle.loading.specs.declared.Turn.TheVariants.{Took, Stopped}
+use Rattle.loading.specs.Loading.{Done, TookNext, Stays, joined, Underway}
 
 -- ---- the next command
 
@@ -44,15 +42,6 @@ module _ (b s bytes : List ℕ) where
     pub turn_taken : {k : ℕ} → k ≡ refusal (tree_of b) c → k ≡ 0 → {b' s' : List ℕ} → Done b s c b' s' → TookNext b s bytes size b' s'
     turn_taken judged none_holds done =
         record { command = c; stands = next_takes (tree_of b) bytes (sym e) (sym judged ∙ none_holds); done = done }
-
--- what became of it, told by its case: done, or nothing more is done
-pub turned_took : {b s bytes : List ℕ} {r : Turn} {size : ℕ} {b' s' : List ℕ} → r ≡ Took size → Turned b s bytes r b' s'
-    → TookNext b s bytes size b' s'
-turned_took {b} {s} {bytes} {b' = b'} {s' = s'} told turned = subst (λ (r : Turn). Turned b s bytes r b' s') told turned
-
-pub turned_stays : {b s bytes : List ℕ} {r : Turn} {k : ℕ} {b' s' : List ℕ} → r ≡ Stopped k → Turned b s bytes r b' s'
-    → Stays b s bytes k b' s'
-turned_stays {b} {s} {bytes} {b' = b'} {s' = s'} told turned = subst (λ (r : Turn). Turned b s bytes r b' s') told turned
 
 -- ---- the whole stream
 

@@ -1,6 +1,6 @@
 -- Document 01, "Loading a stream": what a command is done on and what it leaves, what becomes of the next command of a stream, and what
 -- stands where a part of a stream is taken.
-use Rattle.std.specs.Prelude.{◌≡◌, List, ℕ, ◌+◌, ◌≤◌, length, drop}
+use Rattle.std.specs.Prelude.{◌≡◌, List, ℕ, ◌+◌, ◌≤◌, length, drop, Option, Some, None, Result, Ok, Err}
 use Rattle.definitions.specs.Book.{tree_of, WellFormed}
 use Rattle.definitions.specs.Sheet.{rows_of}
 use Rattle.definitions.specs.Truth.{TrueSheet}
@@ -11,13 +11,18 @@ use Rattle.definitions.specs.Load.{next, stopped, load}
 use Rattle.definitions.specs.Calls.{LoadAnswer, LoadDone}
 use Rattle.reading.specs.Meaning.{command_of, Narrow}
 use Rattle.reading.specs.declared.Command.{Command}
-use Rattle.loading.specs.declared.Turn.{Turn}
-use Rattle.loading.specs.declared.Turn.TheVariants.{Took, Stopped}
+use Rattle.refusals.specs.Meaning.{number_of}
+use Rattle.refusals.specs.declared.Refusal.{Refusal}
 use Rattle.loading.specs.declared.Loaded.{Loaded}
+
+-- 0, or the number of a refusal
+abbrev pub number_in : Option Refusal → ℕ
+number_in None = 0
+number_in (Some r) = number_of r
 
 -- what Load's answer says by document 01
 abbrev pub answer_of : Loaded → LoadAnswer
-answer_of r = record { bytes = r.bytes; commands = r.commands; number = r.number }
+answer_of r = record { bytes = r.bytes; commands = r.commands; number = number_in r.refusal }
 
 -- book b is well formed, sheet s is true of it, and the command, each operand of one byte or two, is not refused
 pub record Asked (b s : List ℕ) (c : Command) : Type 0 where
@@ -45,10 +50,11 @@ pub record Stays (b s bytes : List ℕ) (k : ℕ) (b' s' : List ℕ) : Type 0 wh
   pub book : b' ≡ b
   pub sheet : s' ≡ s
 
--- what became of the next command of the bytes
-abbrev pub Turned : List ℕ → List ℕ → List ℕ → Turn → List ℕ → List ℕ → Type 0
-Turned b s bytes (Took size) b' s' = TookNext b s bytes size b' s'
-Turned b s bytes (Stopped k) b' s' = Stays b s bytes k b' s'
+-- what became of the next command of the bytes: it is done, there is none, or it is refused
+abbrev pub Turned : List ℕ → List ℕ → List ℕ → Result (Option ℕ) Refusal → List ℕ → List ℕ → Type 0
+Turned b s bytes (Ok (Some size)) b' s' = TookNext b s bytes size b' s'
+Turned b s bytes (Ok None) b' s' = Stays b s bytes 0 b' s'
+Turned b s bytes (Err r) b' s' = Stays b s bytes (number_of r) b' s'
 
 -- so many bytes and commands, and then an answer
 abbrev pub joined : ℕ → ℕ → LoadAnswer → LoadAnswer

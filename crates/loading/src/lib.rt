@@ -11,22 +11,15 @@ ghost use Rattle.definitions.specs.Calls.{LoadDone, LoadSays};
 ghost use Rattle.reading.specs.Meaning.{command_of};
 ghost use Rattle.loading.specs.Loading.{Asked, Done, Turned, answer_of};
 
-use reading::{Command, Read};
+use reading::{Command, Taken};
+use refusals::Refusal;
 
-// What became of the next command: it is done and took so many bytes; or nothing more is done, by 0 at the stream's end, else by a
-// refusal's number.
-#[derive(Drop)]
-pub enum Turn {
-    Took(usize),
-    Stopped(u32),
-}
-
-// Load's answer: bytes taken, commands taken, and 0 or the refusal.
-#[derive(Drop)]
+// Load's answer: bytes taken, commands taken, and the refusal, if there is one.
+#[derive(Clone, Copy, Debug, PartialEq, Eq)]
 pub struct Loaded {
     pub bytes: usize,
     pub commands: usize,
-    pub number: u32,
+    pub refusal: Option<Refusal>,
 }
 
 // Does a command that is not refused.
@@ -58,23 +51,23 @@ fn do_command(book: &mut [u32], sheet: &mut [u32], command: Command)
     }
 }
 
-// Does the next command of a stream of which so many bytes are taken. Where there is none, or it is refused, nothing changes.
-pub fn take_next(book: &mut [u32], sheet: &mut [u32], stream: &[u8], taken: usize) -> Turn
+// Does the next command of a stream of which so many bytes are taken, and gives how many bytes it took. Where there is none, or it is refused,
+// nothing changes.
+pub fn take_next(
+    book: &mut [u32],
+    sheet: &mut [u32],
+    stream: &[u8],
+    taken: usize,
+) -> Result<Option<usize>, Refusal>
     requires { WellFormed book.old × TrueSheet (tree_of book.old) sheet.old }
     ensures { Turned book.old sheet.old (drop taken stream.now) result book.new sheet.new }
 {
-    match reader::command_at(stream, taken) {
-        Read::Ended => Turn::Stopped(0),
-        Read::Refused(number) => Turn::Stopped(number),
-        Read::Taken { command, size } => {
-            let number = judging::refusal(book, command);
-            if number != 0 {
-                return Turn::Stopped(number);
-            }
-            do_command(book, sheet, command);
-            Turn::Took(size)
-        }
-    }
+    let Some(Taken { command, size }) = reader::command_at(stream, taken)? else {
+        return Ok(None);
+    };
+    judging::judge(book, command)?;
+    do_command(book, sheet, command);
+    Ok(Some(size))
 }
 
 // Does a stream's commands up to its end or the first that is refused.
@@ -85,51 +78,43 @@ fn run_stream(book: &mut [u32], sheet: &mut [u32], stream: &[u8]) -> Loaded
 {
     let mut taken = 0usize;
     let mut count = 0usize;
+    // No index is counted: each turn goes on by what its command takes.
     loop {
         match take_next(book, sheet, stream, taken) {
-            Turn::Took(size) => {
+            Ok(Some(size)) => {
                 taken += size;
                 count += 1;
             }
-            Turn::Stopped(number) => {
+            Ok(None) => {
                 return Loaded {
                     bytes: taken,
                     commands: count,
-                    number,
+                    refusal: None,
+                };
+            }
+            Err(refusal) => {
+                return Loaded {
+                    bytes: taken,
+                    commands: count,
+                    refusal: Some(refusal),
                 };
             }
         }
     }
 }
 
-// The answer of a call that takes nothing.
-fn refused(number: u32) -> Loaded
-    ensures { answer_of result ≡ record { bytes = 0; commands = 0; number = number } }
-{
-    Loaded {
-        bytes: 0,
-        commands: 0,
-        number,
-    }
-}
-
 // Load: does the commands of a stream on a book and its sheet, up to the stream's end or the first command that is refused, and answers how
-// many bytes and commands were taken, and 0 or the refusal. It refuses 1 (a wrong length), 2 (book not well formed) and 3 (sheet not true)
+// many bytes and commands were taken, and the refusal, if there is one. It refuses 1 (a wrong length), 2 (book not well formed) and 3 (sheet not true)
 // with nothing done; then at a command 4 to 12 or 21, with the commands before it done and nothing of it.
 pub fn load(book: &mut [u32], sheet: &mut [u32], stream: &[u8]) -> Loaded
     ensures { LoadSays book.old sheet.old stream.now (answer_of result) book.new sheet.new }
 {
-    if book.len() != book::BOOK {
-        return refused(1);
+    match truesheet::judge(book, sheet) {
+        Ok(()) => run_stream(book, sheet, stream),
+        Err(refusal) => Loaded {
+            bytes: 0,
+            commands: 0,
+            refusal: Some(refusal),
+        },
     }
-    if sheet.len() != sheet::SHEET {
-        return refused(1);
-    }
-    if !wellformed::well_formed(book) {
-        return refused(2);
-    }
-    if !truesheet::true_sheet(book, sheet) {
-        return refused(3);
-    }
-    run_stream(book, sheet, stream)
 }

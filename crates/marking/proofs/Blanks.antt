@@ -3,7 +3,7 @@ use mathlib.Core.Path.{◌≡◌, refl, ap, ◌∙◌, fun_ext}
 use mathlib.Core.Bool.{Bool, true, false, cond, ◌&&◌, and-true}
 use mathlib.Core.Option.{Option, none, some}
 use mathlib.Core.List.{List}
-use Prim.Native.Nat.{ℕ, ◌+◌, ◌<◌}
+use Prim.Native.Nat.{ℕ, ◌<◌}
 use lib.Dec.{ltb}
 use lib.ListN.{length}
 use Rattle.definitions.specs.Basics.{option}
@@ -12,11 +12,11 @@ use Rattle.definitions.specs.Book.{word, number, under, node_word, tree_of, Well
 use Rattle.definitions.specs.Sheet.{rows_of}
 use Rattle.definitions.proofs.Words.{present_word, no_owner, owner_range}
 use Rattle.sheet.specs.Fields.{Leaves, with_blank_node}
-use Rattle.sheet.proofs.Stores.{leaves_then, leaves_same, untouched, blank_both}
+use Rattle.sheet.proofs.Stores.{leaves_same, untouched}
 use Rattle.book.specs.Chosen.{chosen, only, up_to}
 use Rattle.sheet.specs.Fields.{with_blank_nodes}
 use Rattle.marking.specs.Stale.{owned_by, LeavesBlank}
-use Rattle.book.proofs.Chosen.{none_up, none_only, one_only, up_more}
+use Rattle.book.proofs.Chosen.{none_only, one_only}
 
 -- ---- one node
 
@@ -52,16 +52,6 @@ module _ (book : List ℕ) (w : WellFormed book) (list : List ℕ) (n : ℕ) {o 
         (ap (with_blank_nodes (rows_of a)) (one_only (owned_by (tree_of book) (chosen list)) n (ap (option false (chosen list)) own ∙ on)))
 
 -- ---- the loop over the nodes
-
-module _ (g : ℕ → Bool) where
-  -- at first, and after one node more
-  pub blanking_none : (ws : List ℕ) → length ws ≡ sheet_length → LeavesBlank ws ws (up_to g 0)
-  blanking_none ws l = leaves_same (untouched ws l) (ap (with_blank_nodes (rows_of ws)) (none_up g))
-
-  pub blanking_more : (i : ℕ) {a b c : List ℕ} → LeavesBlank a b (up_to g i) → LeavesBlank b c (only g i) → LeavesBlank a c (up_to g (i + 1))
-  blanking_more i {a} first second =
-      leaves_same (leaves_then (λ r. with_blank_nodes r (only g i)) first second)
-      (blank_both (rows_of a) (up_to g i) (only g i) ∙ ap (with_blank_nodes (rows_of a)) (up_more g i))
 
 -- a book has no node past its last
 all_under_lem : (book : List ℕ) (test : ℕ → Bool) → up_to (owned_by (tree_of book) test) nodes ≡ owned_by (tree_of book) test

@@ -65,10 +65,8 @@ fn blank_nodes(book: &[u32], sheet: &mut [u32], list: &[u32; 64])
     requires { WellFormed book.now × (length sheet.old ≡ sheet_length) }
     ensures { LeavesBlank sheet.old sheet.new (owned_by (tree_of book.now) (chosen list.now)) }
 {
-    let mut n = 0u32;
-    while n < book::NODES {
+    for n in 0..book::NODES {
         blank_if_owned(book, sheet, list, n);
-        n += 1;
     }
 }
 

@@ -2,10 +2,8 @@
 // with holds (W-205) and with leaving charges (W-207); books full to the last number; each refusal, with the words lent for the third book and sheet untouched.
 #![tactic(auto)]
 
-use planning::PlanAnswer;
-
-// The descriptor of standard output.
-const STDOUT_FILENO: i32 = 1;
+use planning::Planned;
+use trying::{MAST, front, front_mut, number, say_no, show_words, status, text};
 
 // A book and a sheet.
 type Book = [u32; book::BOOK];
@@ -24,121 +22,76 @@ struct Words {
     sheet: usize,
 }
 
-// Writes a space and a number.
-fn number(n: u32) {
-    io::write_all(STDOUT_FILENO, b" ");
-    io::print_decimal(STDOUT_FILENO, n as u64);
-}
-
-// Writes a text and the words of a book from one place up to another.
-fn show_words(text: &[u8], book: &Book, at: usize, end: usize) {
-    if book::BOOK < end {
-        return;
-    }
-    io::write_all(STDOUT_FILENO, text);
-    let mut i = at;
-    while i < end {
-        number(book[i]);
-        i += 1;
-    }
-    io::write_all(STDOUT_FILENO, b"\n");
-}
-
 // Opens fresh and loads a stream.
 fn make(book: &mut Book, sheet: &mut Sheet, stream: &[u8]) {
-    opening::open_fresh(book, sheet);
+    let _ = opening::open_fresh(book, sheet);
     loading::load(book, sheet, stream);
 }
 
-// Loads a stream, and writes a text and the number that it is refused with.
-fn show_load(text: &[u8], book: &mut Book, sheet: &mut Sheet, stream: &[u8]) {
+// Loads a stream, and writes a text and the number that it is refused with, or 0.
+fn show_load(t: &[u8], book: &mut Book, sheet: &mut Sheet, stream: &[u8]) {
     let answer = loading::load(book, sheet, stream);
-    io::write_all(STDOUT_FILENO, text);
-    number(answer.number);
-    io::write_all(STDOUT_FILENO, b"\n");
+    text(t);
+    number(status(answer.refusal));
+    text(b"\n");
 }
 
-// Merges two books, and writes a text and the number.
-fn show_merge(text: &[u8], first: &Book, second: &Book, book: &mut Book, sheet: &mut Sheet) {
-    io::write_all(STDOUT_FILENO, text);
-    number(merging::merge(first, second, book, sheet));
-    io::write_all(STDOUT_FILENO, b"\n");
+// Merges two books, and writes a text and the number of the refusal, or 0.
+fn show_merge(t: &[u8], first: &Book, second: &Book, book: &mut Book, sheet: &mut Sheet) {
+    text(t);
+    number(status(merging::merge(first, second, book, sheet).err()));
+    text(b"\n");
 }
 
 // Writes the cost of a plan, or `no` and the refusal.
-fn show_plan(text: &[u8], book: &Book, sheet: &Sheet, from: u32, to: u32) {
+fn show_plan(t: &[u8], book: &Book, sheet: &Sheet, from: u32, to: u32) {
     let mut plan = [0u8; 255];
-    io::write_all(STDOUT_FILENO, text);
+    text(t);
     match planning::plan(book, sheet, from, to, &mut plan) {
-        PlanAnswer::Planned { cost, count: _ } => number(cost),
-        PlanAnswer::Refused(k) => {
-            io::write_all(STDOUT_FILENO, b" no");
-            number(k);
-        }
+        Ok(Planned { cost, count: _ }) => number(cost),
+        Err(refusal) => say_no(refusal),
     }
-    io::write_all(STDOUT_FILENO, b"\n");
+    text(b"\n");
 }
 
-// 1 where every word of a list is 7, else 0.
-fn sevens(list: &[u32]) -> u32 {
-    let mut i = 0usize;
-    while i < list.len() {
-        if list[i] != 7 {
-            return 0;
-        }
-        i += 1;
-    }
-    1
+// Whether every word of a list is 7.
+fn sevens(list: &[u32]) -> bool {
+    list.iter().all(|word| *word == 7)
 }
 
 // Merges the fronts of two lists into those of two others, each of so many words, and writes the number and whether the others are 7 everywhere.
 fn merge_fronts(
-    text: &[u8],
+    t: &[u8],
     first: &[u32],
     second: &[u32],
     book: &mut [u32],
     sheet: &mut [u32],
     words: Words,
 ) {
-    let one = words.first;
-    let two = words.second;
-    let three = words.book;
-    let four = words.sheet;
-    if first.len() < one {
-        return;
-    }
-    if second.len() < two {
-        return;
-    }
-    if book.len() < three {
-        return;
-    }
-    if sheet.len() < four {
-        return;
-    }
-    io::write_all(STDOUT_FILENO, text);
-    number(merging::merge(
-        &first[..one],
-        &second[..two],
-        &mut book[..three],
-        &mut sheet[..four],
-    ));
-    number(sevens(book));
-    number(sevens(sheet));
-    io::write_all(STDOUT_FILENO, b"\n");
+    text(t);
+    let answer = merging::merge(
+        front(first, words.first),
+        front(second, words.second),
+        front_mut(book, words.book),
+        front_mut(sheet, words.sheet),
+    );
+    number(status(answer.err()));
+    number(sevens(book) as u32);
+    number(sevens(sheet) as u32);
+    text(b"\n");
 }
 
 // The same with lists that hold 7 everywhere.
-fn show_refused(text: &[u8], first: &[u32], second: &[u32], words: Words) {
+fn show_refused(t: &[u8], first: &[u32], second: &[u32], words: Words) {
     let mut book = [7u32; book::BOOK + 1];
     let mut sheet = [7u32; sheet::SHEET + 1];
-    merge_fronts(text, first, second, &mut book, &mut sheet, words);
+    merge_fronts(t, first, second, &mut book, &mut sheet, words);
 }
 
 // The same with all lists at their right lengths.
-fn show_whole(text: &[u8], first: &Book, second: &Book) {
+fn show_whole(t: &[u8], first: &Book, second: &Book) {
     show_refused(
-        text,
+        t,
         first,
         second,
         Words {
@@ -166,7 +119,7 @@ fn show_lengths(first: &Longer, second: &Longer) {
 
 // The same with so many words of each.
 fn show_length(
-    text: &[u8],
+    t: &[u8],
     first: &Longer,
     second: &Longer,
     one: usize,
@@ -175,7 +128,7 @@ fn show_length(
     rows: usize,
 ) {
     show_refused(
-        text,
+        t,
         first,
         second,
         Words {
@@ -284,11 +237,8 @@ fn last_machine(fresh: &Book) {
 // Opens fresh and adds nodes 1 to 61.
 fn add_nodes(book: &mut Book, sheet: &mut Sheet) {
     make(book, sheet, b"");
-    let mut n: u8 = 1;
-    while n < 62 {
-        let stream = [17u8, 0, 0, n];
-        loading::load(book, sheet, &stream);
-        n += 1;
+    for n in 1..62u8 {
+        loading::load(book, sheet, &[17, 0, 0, n]);
     }
 }
 
@@ -325,17 +275,13 @@ fn last_node() {
 
 // Opens the ladder.
 fn open_ladder(book: &mut Book, sheet: &mut Sheet) {
-    opening::open_ladder(book, sheet);
+    let _ = opening::open_ladder(book, sheet);
 }
 
 // Lends lists that are a word too short or too long.
 fn lengths(mast: &Book) {
     let mut long = [65535u32; book::BOOK + 1];
-    let mut i = 0usize;
-    while i < book::BOOK {
-        long[i] = mast[i];
-        i += 1;
-    }
+    long[..book::BOOK].copy_from_slice(mast);
     let other = long;
     show_lengths(&long, &other);
 }
@@ -348,11 +294,7 @@ fn main() {
     let mut sheet = [0u32; sheet::SHEET];
     make(&mut fresh, &mut sheet, b"");
     open_ladder(&mut ladder, &mut sheet);
-    make(
-        &mut mast,
-        &mut sheet,
-        b"\x10\x00\x00\x00\x11\x00\x00\x01\x11\x00\x00\x02\x12\x00\x01\x01\x00\x0A\x11\x01\x00\x0B\x14\x00\x00\x00\x00\x01\x00\x05\x14\x00\x00\x02\x00\x02\x00\x14\x14\x00\x01\x01\x00\x02\x00\x03\x14\x00\x02\x00\x00\x00\x00\x07\x14\x00\x0A\x01\x00\x0A\x00\x01\x14\x00\x0A\x02\x00\x0B\x00\x04",
-    );
+    make(&mut mast, &mut sheet, &MAST);
     make(
         &mut deep,
         &mut sheet,

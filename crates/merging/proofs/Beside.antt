@@ -10,15 +10,16 @@ use lib.Dec.{eqb}
 use lib.ListN.{get_or}
 use borrow.Author.Tests.{eq-eqb, ne_eqb}
 use Rattle.definitions.specs.Basics.{◌>>=◌, option, or_else}
-use Rattle.definitions.specs.Limits.{machines, nodes, costs, absent}
+use Rattle.definitions.specs.Limits.{costs, absent}
 use Rattle.definitions.specs.Tree.{Tree, Sound}
-use Rattle.definitions.specs.Book.{word, machine_field, node_field, tree_of, WellFormed}
-use Rattle.definitions.specs.Merge.{rising, machine_moves, node_moves, renumbered, beside}
+use Rattle.definitions.specs.Book.{word, tree_of, WellFormed}
+use Rattle.definitions.specs.Merge.{rising, renumbered, beside}
 use Rattle.definitions.proofs.Options.{equal_or_not}
 use Rattle.definitions.proofs.Words.{present_word, absent_word, owner_range, below_range, start_range, holder_range}
 use Rattle.mergetheory.proofs.Ranks.{moved_some}
 use Rattle.numbering.specs.Tests.{Tells}
-use Rattle.merging.specs.Merging.{beside_tree}
+use Rattle.merging.specs.Merging.{size_of, moves_of, named_by, field_of, charge_of, beside_tree}
+use Rattle.merging.specs.declared.Kind.{Kind}
 
 -- ---- a number of the first, or else one of the second that moved
 
@@ -78,31 +79,30 @@ module _ {X : ℕ → ℕ} {mine other from to : ℕ → Option ℕ} {limit size
 
 -- ---- machines and nodes
 
--- the number at a place of a machine's record and of a node's, in each case if there is one
-abbrev pub machine_number : Tree → ℕ → ℕ → Option ℕ
-machine_number t m zero = t.holder m
-machine_number t m (suc k) = t.start m
+-- there are fewer numbers than the word for absent
+pub size_fits : (kind : Kind) → size_of kind < absent
+size_fits Kind.Machines = omega arith
+size_fits Kind.Nodes = omega arith
 
-abbrev pub node_number : Tree → ℕ → ℕ → Option ℕ
-node_number t n zero = t.owner n
-node_number t n (suc k) = t.below n
+-- the number at a place of a record, if there is one
+abbrev pub number_at : Kind → Tree → ℕ → ℕ → Option ℕ
+number_at Kind.Machines t m zero = t.holder m
+number_at Kind.Machines t m (suc k) = t.start m
+number_at Kind.Nodes t n zero = t.owner n
+number_at Kind.Nodes t n (suc k) = t.below n
 
-pub machine_number_lem : (t : Tree) (m k : ℕ) → machine_field t m k ≡ word (machine_number t m k)
-machine_number_lem t m zero = refl
-machine_number_lem t m (suc k) = refl
+pub number_at_lem : (kind : Kind) (t : Tree) (i k : ℕ) → k < 2 → field_of kind t i k ≡ word (number_at kind t i k)
+number_at_lem Kind.Machines t m zero h = refl
+number_at_lem Kind.Machines t m (suc k) h = refl
+number_at_lem Kind.Nodes t n zero h = refl
+number_at_lem Kind.Nodes t n (suc zero) h = refl
+number_at_lem Kind.Nodes t n (suc (suc k)) h = absurd (omega arith)
 
-pub node_number_lem : (t : Tree) (n k : ℕ) → k < 2 → node_field t n k ≡ word (node_number t n k)
-node_number_lem t n zero h = refl
-node_number_lem t n (suc zero) h = refl
-node_number_lem t n (suc (suc k)) h = absurd (omega arith)
-
-machine_small : (t : Tree) → Sound t → (m k : ℕ) → Small nodes (machine_number t m k)
-machine_small t s m zero n e = (holder_range t s m n e).1
-machine_small t s m (suc k) n e = (start_range t s m n e).1
-
-node_small : (t : Tree) → Sound t → (n k : ℕ) → Small machines (node_number t n k)
-node_small t s n zero m e = (owner_range t s n m e).1
-node_small t s n (suc k) m e = (below_range t s n m e).1
+number_small : (kind : Kind) (t : Tree) → Sound t → (i k : ℕ) → Small (size_of (named_by kind)) (number_at kind t i k)
+number_small Kind.Machines t s m zero n e = (holder_range t s m n e).1
+number_small Kind.Machines t s m (suc k) n e = (start_range t s m n e).1
+number_small Kind.Nodes t s n zero m e = (owner_range t s n m e).1
+number_small Kind.Nodes t s n (suc k) m e = (below_range t s n m e).1
 
 -- a number that moved, and one that came back, is under the limit
 pub from_small : (limit : ℕ) (p q : ℕ → Bool) (k : ℕ) → Small limit ((rising limit p q).from k)
@@ -114,50 +114,31 @@ unfolding rising
 to_small limit p q d k e = (moved_some limit p q d e).1.range
 
 -- the two trees beside each other join them
-pub machine_joins : {first second : List ℕ} → WellFormed first → WellFormed second → (s k : ℕ)
-    → Joins (λ m. machine_field (beside_tree first second s) m k) (λ m. machine_number (tree_of first) m k) (λ m. machine_number (tree_of second) m k)
-    (machine_moves (tree_of first) (tree_of second)).from (node_moves (tree_of first) (tree_of second)).to nodes machines
-unfolding beside renumbered
-machine_joins {first} {second} wf ws s k =
-    record {
-      fits = omega arith;
-      room = omega arith;
-      mine_small = λ m. machine_small (tree_of first) wf.sound m k;
-      other_small = λ m. machine_small (tree_of second) ws.sound m k;
-      from_small = from_small machines _ _;
-      says = λ m. go k m;
-    }
-  where
-    go : (k m : ℕ)
-        → machine_field (beside_tree first second s) m k
-        ≡ word
-        (or_else (machine_number (tree_of first) m k)
-        ((machine_moves (tree_of first) (tree_of second)).from m >>= (λ d. machine_number (tree_of second) d k) >>= (node_moves (tree_of first) (tree_of second)).to))
-    go zero m = refl
-    go (suc k) m = refl
+module _ (first second : List ℕ) where
+  beside_says : (kind : Kind) (s k i : ℕ) → k < 2
+      → field_of kind (beside_tree first second s) i k
+      ≡ word
+      (or_else (number_at kind (tree_of first) i k)
+      ((moves_of kind first second).from i >>= (λ d. number_at kind (tree_of second) d k) >>= (moves_of (named_by kind) first second).to))
+  unfolding beside renumbered
+  beside_says Kind.Machines s zero m h = refl
+  beside_says Kind.Machines s (suc k) m h = refl
+  beside_says Kind.Nodes s zero n h = refl
+  beside_says Kind.Nodes s (suc zero) n h = refl
+  beside_says Kind.Nodes s (suc (suc k)) n h = absurd (omega arith)
 
-pub node_joins : {first second : List ℕ} → WellFormed first → WellFormed second → (s k : ℕ) → k < 2
-    → Joins (λ n. node_field (beside_tree first second s) n k) (λ n. node_number (tree_of first) n k) (λ n. node_number (tree_of second) n k)
-    (node_moves (tree_of first) (tree_of second)).from (machine_moves (tree_of first) (tree_of second)).to machines nodes
-unfolding beside renumbered
-node_joins {first} {second} wf ws s k h =
+pub joins : (kind : Kind) {first second : List ℕ} → WellFormed first → WellFormed second → (s k : ℕ) → k < 2
+    → Joins (λ i. field_of kind (beside_tree first second s) i k) (λ i. number_at kind (tree_of first) i k) (λ i. number_at kind (tree_of second) i k)
+    (moves_of kind first second).from (moves_of (named_by kind) first second).to (size_of (named_by kind)) (size_of kind)
+joins kind {first} {second} wf ws s k h =
     record {
-      fits = omega arith;
-      room = omega arith;
-      mine_small = λ n. node_small (tree_of first) wf.sound n k;
-      other_small = λ n. node_small (tree_of second) ws.sound n k;
-      from_small = from_small nodes _ _;
-      says = λ n. go k n h;
+      fits = size_fits (named_by kind);
+      room = size_fits kind;
+      mine_small = λ i. number_small kind (tree_of first) wf.sound i k;
+      other_small = λ i. number_small kind (tree_of second) ws.sound i k;
+      from_small = from_small (size_of kind) _ _;
+      says = λ i. beside_says first second kind s k i h;
     }
-  where
-    go : (k n : ℕ) → k < 2
-        → node_field (beside_tree first second s) n k
-        ≡ word
-        (or_else (node_number (tree_of first) n k)
-        ((node_moves (tree_of first) (tree_of second)).from n >>= (λ d. node_number (tree_of second) d k) >>= (machine_moves (tree_of first) (tree_of second)).to))
-    go zero n h = refl
-    go (suc zero) n h = refl
-    go (suc (suc k)) n h = absurd (omega arith)
 
 -- ---- holds and leaving costs
 
@@ -188,28 +169,24 @@ module _ {X mine other : ℕ → ℕ} {from : ℕ → Option ℕ} {size : ℕ} (
       pub sum_moved : own + v ≡ X i
       sum_moved = rw (j.says i, present_word (from i) came present) (omega (arith, said, told))
 
-module _ {first second : List ℕ} (wf : WellFormed first) (ws : WellFormed second) where
-  pub hold_sums : (s : ℕ)
-      → Sums (beside_tree first second s).hold (tree_of first).hold (tree_of second).hold (node_moves (tree_of first) (tree_of second)).from nodes
-  unfolding beside renumbered
-  hold_sums s =
-      record {
-        room = omega arith;
-        mine_small = λ n. omega (arith, wf.sound.hold_range n);
-        other_small = λ n. omega (arith, ws.sound.hold_range n);
-        from_small = from_small nodes _ _;
-        says = λ n. refl;
-      }
+charge_small : (kind : Kind) {ws : List ℕ} → WellFormed ws → (i : ℕ) → charge_of kind (tree_of ws) i < costs
+charge_small Kind.Machines w m = w.sound.leave_range m
+charge_small Kind.Nodes w n = omega (arith, w.sound.hold_range n)
 
-  pub leave_sums : (s : ℕ)
-      → Sums (beside_tree first second s).leave (tree_of first).leave (tree_of second).leave (machine_moves (tree_of first) (tree_of second)).from
-      machines
-  unfolding beside renumbered
-  leave_sums s =
-      record {
-        room = omega arith;
-        mine_small = wf.sound.leave_range;
-        other_small = ws.sound.leave_range;
-        from_small = from_small machines _ _;
-        says = λ m. refl;
-      }
+charge_says : (first second : List ℕ) (kind : Kind) (s i : ℕ) → charge_of kind (beside_tree first second s) i
+    ≡ charge_of kind (tree_of first) i + option 0 (charge_of kind (tree_of second)) ((moves_of kind first second).from i)
+unfolding beside renumbered
+charge_says first second Kind.Machines s m = refl
+charge_says first second Kind.Nodes s n = refl
+
+pub sums : (kind : Kind) {first second : List ℕ} → WellFormed first → WellFormed second → (s : ℕ)
+    → Sums (charge_of kind (beside_tree first second s)) (charge_of kind (tree_of first)) (charge_of kind (tree_of second)) (moves_of kind first second).from
+    (size_of kind)
+sums kind {first} {second} wf ws s =
+    record {
+      room = size_fits kind;
+      mine_small = charge_small kind wf;
+      other_small = charge_small kind ws;
+      from_small = from_small (size_of kind) _ _;
+      says = charge_says first second kind s;
+    }

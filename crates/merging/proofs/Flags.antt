@@ -1,30 +1,25 @@
 -- Which numbers a book uses, as a list of 1 and 0. Assumes nothing.
 use mathlib.Core.Path.{◌≡◌, refl, sym, ◌∙◌, ap}
 use mathlib.Core.Bool.{Bool, true, false, not, cond, ◌&&◌}
-use mathlib.Core.Option.{Option, some}
 use mathlib.Core.List.{List}
 use Prim.Native.Nat.{ℕ, suc, ◌+◌, ◌<◌}
 use native.Mathlib.Omega.{arith}
 use lib.Dec.{eqb, ltb}
 use lib.ListN.{length}
 use borrow.Author.Tests.{lt-ltb}
-use Rattle.definitions.specs.Basics.{is_some, count_below}
+use Rattle.definitions.specs.Basics.{count_below}
 use Rattle.definitions.specs.Limits.{absent}
-use Rattle.definitions.specs.Book.{word}
+use Rattle.definitions.specs.Book.{word, number}
 use Rattle.definitions.specs.Merge.{ranked, moved, rising}
 use Rattle.definitions.proofs.Simple.{count_same}
-use Rattle.judging.proofs.Laws.{there}
-use Rattle.mergetheory.proofs.Ranks.{ranked_same, moved_same}
+use Rattle.definitions.proofs.Words.{number_word}
+use Rattle.mergetheory.proofs.Ranks.{ranked_some, ranked_same, moved_same}
 use Rattle.numbering.specs.Tests.{has, Tells}
 use Rattle.merging.specs.Merging.{Flags}
 
--- 1 for what is there, and 0 where nothing is
-pub flag : (o : Option ℕ) → ((n : ℕ) → o ≡ some n → n < absent) → {w r : ℕ} → w ≡ word o → r ≡ cond (eqb w absent) 0 1 → r ≡ cond (is_some o) 1 0
-flag o small {w} said e = e ∙ turned (eqb w absent) ∙ ap (λ b. cond b 1 0) (there o small said)
-  where
-    turned : (b : Bool) → ◌≡◌ {A = ℕ} (cond b 0 1) (cond (not b) 1 0)
-    turned true = refl
-    turned false = refl
+-- the word of the number of a rank says it
+pub number_ranked : (limit : ℕ) (q : ℕ → Bool) (j : ℕ) → limit < absent → {w : ℕ} → w ≡ word (ranked limit q j) → number w ≡ ranked limit q j
+number_ranked limit q j fits e = ap number e ∙ number_word (ranked limit q j) (λ n h. omega (arith, (ranked_some limit q j h).range))
 
 -- ---- two such lists: `moving` of the numbers that move, `kept` of those that are taken
 

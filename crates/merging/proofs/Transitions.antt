@@ -9,7 +9,8 @@ use Rattle.definitions.specs.Limits.{nodes, costs, absent, blank}
 use Rattle.definitions.specs.Book.{word, transition_word, tree_of, WellFormed}
 use Rattle.definitions.specs.Merge.{node_moves, renumbered, beside}
 use Rattle.definitions.proofs.Words.{present_word, no_transition, some_transition, target_range}
-use Rattle.merging.specs.Merging.{NodeTo, NodesMove, beside_tree}
+use Rattle.merging.specs.Merging.{To, NodesMove, beside_tree}
+use Rattle.merging.specs.declared.Kind.{Kind}
 use Rattle.merging.proofs.Beside.{absent_none, present_small, from_small, to_small}
 
 module _ {first second : List ℕ} (wf : WellFormed first) (ws : WellFormed second) (n x : ℕ) {own : ℕ}
@@ -45,7 +46,7 @@ module _ {first second : List ℕ} (wf : WellFormed first) (ws : WellFormed seco
             no_transition (tree_of second) ws.sound d x told at,
           ))
 
-      module _ (here : w ≡ blank → ⊥) (moves : NodesMove first second) {list : List ℕ} (goes : NodeTo first second list) where
+      module _ (here : w ≡ blank → ⊥) (moves : NodesMove first second) {list : List ℕ} (goes : To Kind.Nodes first second list) where
         -- it is this one
         has : (tree_of second).transition d x ≡ some (record { target = w / costs; cost = w % costs })
         has = some_transition (tree_of second) ws.sound d x told here

@@ -4,20 +4,33 @@
 
 ghost use Rattle.std.specs.Prelude.{◌≡◌, cond, ◌||◌, ℕ, ◌+◌, ◌<◌, eqb, length, get_or};
 ghost use Rattle.definitions.specs.Limits.{machines, nodes, commands, book_length, absent};
-ghost use Rattle.definitions.specs.Tree.{used_machine, used_node};
-ghost use Rattle.definitions.specs.Book.{word, transition_word, machine_fields, node_fields, machine_field, node_field, encode, tree_of, WellFormed};
+ghost use Rattle.definitions.specs.Book.{transition_word, machine_fields, node_fields, machine_field, node_field, number, encode, tree_of, WellFormed};
 ghost use Rattle.definitions.specs.Edit.{any_lowest};
 ghost use Rattle.definitions.specs.Answer.{InOrder};
 ghost use Rattle.definitions.specs.Calls.{RightLengths};
-ghost use Rattle.definitions.specs.Merge.{ranked, unused_machine, unused_node, machine_count, node_count, tree_refusals, MergeDone, MergeSays};
+ghost use Rattle.definitions.specs.Merge.{ranked, tree_refusals, MergeDone, MergeSays};
 ghost use Rattle.book.specs.Recorded.{Recorded};
-ghost use Rattle.merging.specs.Merging.{Flags, MachineTo, MachineFrom, NodeTo, NodeFrom, NodesMove, MoveLists, beside_tree, rooted_tree};
+ghost use Rattle.refusals.specs.Meaning.{status_of, value_of};
+ghost use Rattle.merging.specs.Merging.{size_of, used_of, unused_of, count_of, named_by, field_of, charge_of};
+ghost use Rattle.merging.specs.Merging.{Flags, To, From, NodesMove, MoveLists, beside_tree, rooted_tree};
 
-// The new root's two nodes, the lower first; ABSENT where there is no number for one.
+use refusals::Refusal;
+
+// What is numbered: machines or nodes.
+#[derive(Clone, Copy)]
+enum Kind {
+    Machines,
+    Nodes,
+}
+
+// Where the second book's machines or nodes move and which moved to a number, by words as numbering writes them, and the two lowest numbers that are
+// left after those, where there are any.
 #[derive(Drop)]
-struct RootNodes {
-    first: u32,
-    second: u32,
+struct Moves<const N: usize> {
+    to: [u32; N],
+    from: [u32; N],
+    next: Option<u32>,
+    after: Option<u32>,
 }
 
 // The new root, its node above the first book's root, its node above the second's, and the number that the second's root moved to.
@@ -29,70 +42,78 @@ struct NewRoot {
     top: u32,
 }
 
-// 1 for the word of a number, and 0 for ABSENT.
-fn in_use(w: u32) -> u32
-    ensures { result ≡ cond (eqb w absent) 0 1 }
+// Whether a book uses a number.
+fn used(book: &[u32], kind: Kind, k: u32) -> bool
+    requires { WellFormed book.now × (k < size_of kind) }
+    ensures { result ≡ used_of kind (tree_of book.now) k }
 {
-    if w == book::ABSENT { 0 } else { 1 }
-}
-
-// Writes 1 for each machine that a book uses, and 0 for the others.
-fn used_machines(book: &[u32], out: &mut [u32])
-    requires { WellFormed book.now × (length out.old ≡ machines) }
-    ensures { Flags machines (used_machine (tree_of book.now)) out.new }
-{
-    let mut m: u32 = 0;
-    while m < book::MACHINES {
-        out[m as usize] = in_use(book::start(book, m));
-        m += 1;
+    match kind {
+        Kind::Machines => book::start(book, k) != book::ABSENT,
+        Kind::Nodes => book::owner(book, k) != book::ABSENT,
     }
 }
 
-// The same for nodes.
-fn used_nodes(book: &[u32], out: &mut [u32])
-    requires { WellFormed book.now × (length out.old ≡ nodes) }
-    ensures { Flags nodes (used_node (tree_of book.now)) out.new }
+// 1 for each number that a book uses, and 0 for the others; no flags, since numbering::moves, whose contract stays, goes by the words of lists.
+fn marks<const N: usize>(book: &[u32], kind: Kind) -> [u32; N]
+    requires { WellFormed book.now × (N ≡ size_of kind) }
+    ensures { Flags (size_of kind) (used_of kind (tree_of book.now)) result }
 {
-    let mut n: u32 = 0;
-    while n < book::NODES {
-        out[n as usize] = in_use(book::owner(book, n));
-        n += 1;
+    let mut marks = [0u32; N];
+    for k in 0..N {
+        marks[k] = u32::from(used(book, kind, k as u32));
+    }
+    marks
+}
+
+// The number of a word, which is none for ABSENT.
+fn number(w: u32) -> Option<u32>
+    ensures { value_of result ≡ number w }
+{
+    if w == book::ABSENT { None } else { Some(w) }
+}
+
+// Where the second book's machines or nodes move beside the first's.
+fn renumber<const N: usize>(first: &[u32], second: &[u32], kind: Kind) -> Moves<N>
+    requires { WellFormed first.now × WellFormed second.now × (N ≡ size_of kind) }
+    ensures there { To kind first.now second.now result.to }
+    ensures back { From kind first.now second.now result.from }
+    ensures next { value_of result.next ≡ ranked (size_of kind) (unused_of kind (tree_of first.now)) (count_of kind (tree_of second.now)) }
+    ensures last { value_of result.after ≡ ranked (size_of kind) (unused_of kind (tree_of first.now)) (count_of kind (tree_of second.now) + 1) }
+{
+    let kept: [u32; N] = marks(first, kind);
+    let moving: [u32; N] = marks(second, kind);
+    let mut to = [0u32; N];
+    let mut from = [0u32; N];
+    numbering::moves(&kept, 0, &moving, 1, &mut from);
+    let next = numbering::moves(&moving, 1, &kept, 0, &mut to);
+    let after = numbering::after(&kept, 0, next);
+    Moves {
+        to,
+        from,
+        next: number(next),
+        after: number(after),
     }
 }
 
-// Writes where the second book's machines move, and which machine moved to a number. Gives the new root, ABSENT where there is no number for it.
-fn move_machines(first: &[u32], second: &[u32], to: &mut [u32], from: &mut [u32]) -> u32
-    requires { WellFormed first.now × WellFormed second.now × (length to.old ≡ machines) × (length from.old ≡ machines) }
-    ensures there { MachineTo first.now second.now to.new }
-    ensures back { MachineFrom first.now second.now from.new }
-    ensures next { result ≡ word (ranked machines (unused_machine (tree_of first.now)) (machine_count (tree_of second.now))) }
+// Word k of a machine's record, its holder or its start; the owner of a node (k = 0) or the machine below it (k = 1).
+fn field(book: &[u32], kind: Kind, i: u32, k: u32) -> u32
+    requires { WellFormed book.now × (i < size_of kind) × (k < 2) }
+    ensures { result ≡ field_of kind (tree_of book.now) i k }
 {
-    let mut kept = [0u32; 64];
-    let mut moving = [0u32; 64];
-    used_machines(first, &mut kept);
-    used_machines(second, &mut moving);
-    numbering::moves(&kept, 0, &moving, 1, from);
-    numbering::moves(&moving, 1, &kept, 0, to)
+    match kind {
+        Kind::Machines => book::machine_word(book, i, k),
+        Kind::Nodes => book::node_word(book, i, k),
+    }
 }
 
-// The same for nodes. Gives the new root's two nodes.
-fn move_nodes(first: &[u32], second: &[u32], to: &mut [u32], from: &mut [u32]) -> RootNodes
-    requires { WellFormed first.now × WellFormed second.now × (length to.old ≡ nodes) × (length from.old ≡ nodes) }
-    ensures there { NodeTo first.now second.now to.new }
-    ensures back { NodeFrom first.now second.now from.new }
-    ensures next { result.first ≡ word (ranked nodes (unused_node (tree_of first.now)) (node_count (tree_of second.now))) }
-    ensures last { result.second ≡ word (ranked nodes (unused_node (tree_of first.now)) (node_count (tree_of second.now) + 1)) }
+// What leaving a machine costs; a node's hold.
+fn charge(book: &[u32], kind: Kind, i: u32) -> u32
+    requires { WellFormed book.now × (i < size_of kind) }
+    ensures { result ≡ charge_of kind (tree_of book.now) i }
 {
-    let mut kept = [0u32; 256];
-    let mut moving = [0u32; 256];
-    used_nodes(first, &mut kept);
-    used_nodes(second, &mut moving);
-    numbering::moves(&kept, 0, &moving, 1, from);
-    let a = numbering::moves(&moving, 1, &kept, 0, to);
-    let b = numbering::after(&kept, 0, a);
-    RootNodes {
-        first: a,
-        second: b,
+    match kind {
+        Kind::Machines => book::leave(book, i),
+        Kind::Nodes => book::hold(book, i),
     }
 }
 
@@ -107,44 +128,48 @@ fn moved_word(to: &[u32], w: u32) -> u32
     to[w as usize]
 }
 
-// Word k of machine m's record, with the second book's machines at their new numbers beside the first's.
-fn beside_machine(first: &[u32], second: &[u32], from: &[u32], to: &[u32], m: u32, k: u32) -> u32
-    requires { WellFormed first.now × WellFormed second.now × MachineFrom first.now second.now from.now
-        × NodeTo first.now second.now to.now × (m < machines) × (k < machine_fields) }
-    ensures { (s : ℕ) → result ≡ machine_field (beside_tree first.now second.now s) m k }
+// Word k of a machine's or a node's record, with the second book's at their new numbers beside the first's.
+fn beside_field(
+    first: &[u32],
+    second: &[u32],
+    kind: Kind,
+    from: &[u32],
+    to: &[u32],
+    i: u32,
+    k: u32,
+) -> u32
+    requires { WellFormed first.now × WellFormed second.now × From kind first.now second.now from.now
+        × To (named_by kind) first.now second.now to.now × (i < size_of kind) × (k < 2) }
+    ensures { (s : ℕ) → result ≡ field_of kind (beside_tree first.now second.now s) i k }
 {
-    let own = book::machine_word(first, m, k);
+    let own = field(first, kind, i, k);
     if own != book::ABSENT {
         return own;
     }
-    let d = from[m as usize];
+    let d = from[i as usize];
     if d == book::ABSENT {
         return book::ABSENT;
     }
-    moved_word(to, book::machine_word(second, d, k))
+    moved_word(to, field(second, kind, d, k))
 }
 
-// The owner of node n (k = 0) or the machine below it (k = 1), with the second book's nodes at their new numbers beside the first's.
-fn beside_node(first: &[u32], second: &[u32], from: &[u32], to: &[u32], n: u32, k: u32) -> u32
-    requires { WellFormed first.now × WellFormed second.now × NodeFrom first.now second.now from.now
-        × MachineTo first.now second.now to.now × (n < nodes) × (k < 2) }
-    ensures { (s : ℕ) → result ≡ node_field (beside_tree first.now second.now s) n k }
+// What leaving a machine costs, or a node's hold, with those of the second book at their new numbers beside the first's.
+fn beside_charge(first: &[u32], second: &[u32], kind: Kind, from: &[u32], i: u32) -> u32
+    requires { WellFormed first.now × WellFormed second.now × From kind first.now second.now from.now × (i < size_of kind) }
+    ensures { (s : ℕ) → result ≡ charge_of kind (beside_tree first.now second.now s) i }
 {
-    let own = book::node_word(first, n, k);
-    if own != book::ABSENT {
+    let own = charge(first, kind, i);
+    let d = from[i as usize];
+    if d == book::ABSENT {
         return own;
     }
-    let d = from[n as usize];
-    if d == book::ABSENT {
-        return book::ABSENT;
-    }
-    moved_word(to, book::node_word(second, d, k))
+    own + charge(second, kind, d)
 }
 
 // The transition of node n for command x, with the second book's nodes at their new numbers beside the first's.
 fn beside_transition(first: &[u32], second: &[u32], from: &[u32], to: &[u32], n: u32, x: u32) -> u32
-    requires { WellFormed first.now × WellFormed second.now × NodeFrom first.now second.now from.now
-        × NodeTo first.now second.now to.now × NodesMove first.now second.now × (n < nodes) × (x < commands) }
+    requires { WellFormed first.now × WellFormed second.now × From Kind.Nodes first.now second.now from.now
+        × To Kind.Nodes first.now second.now to.now × NodesMove first.now second.now × (n < nodes) × (x < commands) }
     ensures { (s : ℕ) → result ≡ transition_word ((beside_tree first.now second.now s).transition n x) }
 {
     let own = book::transition(first, n, x);
@@ -162,36 +187,10 @@ fn beside_transition(first: &[u32], second: &[u32], from: &[u32], to: &[u32], n:
     to[(w / 65536) as usize] * 65536 + w % 65536
 }
 
-// The hold of node n, with those of the second book's nodes at their new numbers beside the first's.
-fn beside_hold(first: &[u32], second: &[u32], from: &[u32], n: u32) -> u32
-    requires { WellFormed first.now × WellFormed second.now × NodeFrom first.now second.now from.now × (n < nodes) }
-    ensures { (s : ℕ) → result ≡ (beside_tree first.now second.now s).hold n }
-{
-    let own = book::hold(first, n);
-    let d = from[n as usize];
-    if d == book::ABSENT {
-        return own;
-    }
-    own + book::hold(second, d)
-}
-
-// What leaving machine m costs, with the costs of the second book's machines at their new numbers beside the first's.
-fn beside_leave(first: &[u32], second: &[u32], from: &[u32], m: u32) -> u32
-    requires { WellFormed first.now × WellFormed second.now × MachineFrom first.now second.now from.now × (m < machines) }
-    ensures { (s : ℕ) → result ≡ (beside_tree first.now second.now s).leave m }
-{
-    let own = book::leave(first, m);
-    let d = from[m as usize];
-    if d == book::ABSENT {
-        return own;
-    }
-    own + book::leave(second, d)
-}
-
 // The node that holds machine m in the merged book.
 fn merged_holder(first: &[u32], second: &[u32], from: &[u32], to: &[u32], h: NewRoot, m: u32) -> u32
-    requires { WellFormed first.now × WellFormed second.now × MachineFrom first.now second.now from.now
-        × NodeTo first.now second.now to.now × (m < machines) }
+    requires { WellFormed first.now × WellFormed second.now × From Kind.Machines first.now second.now from.now
+        × To Kind.Nodes first.now second.now to.now × (m < machines) }
     ensures { result ≡ machine_field (rooted_tree first.now second.now h.root h.first h.second h.top) m 0 }
 {
     if m == h.top {
@@ -200,25 +199,25 @@ fn merged_holder(first: &[u32], second: &[u32], from: &[u32], to: &[u32], h: New
     if m == book::root(first) {
         return h.first;
     }
-    beside_machine(first, second, from, to, m, 0)
+    beside_field(first, second, Kind::Machines, from, to, m, 0)
 }
 
 // The start node of machine m in the merged book.
 fn merged_start(first: &[u32], second: &[u32], from: &[u32], to: &[u32], h: NewRoot, m: u32) -> u32
-    requires { WellFormed first.now × WellFormed second.now × MachineFrom first.now second.now from.now
-        × NodeTo first.now second.now to.now × (m < machines) }
+    requires { WellFormed first.now × WellFormed second.now × From Kind.Machines first.now second.now from.now
+        × To Kind.Nodes first.now second.now to.now × (m < machines) }
     ensures { result ≡ machine_field (rooted_tree first.now second.now h.root h.first h.second h.top) m 1 }
 {
     if m == h.root {
         return h.first;
     }
-    beside_machine(first, second, from, to, m, 1)
+    beside_field(first, second, Kind::Machines, from, to, m, 1)
 }
 
 // The machine that node n belongs to in the merged book.
 fn merged_owner(first: &[u32], second: &[u32], from: &[u32], to: &[u32], h: NewRoot, n: u32) -> u32
-    requires { WellFormed first.now × WellFormed second.now × NodeFrom first.now second.now from.now
-        × MachineTo first.now second.now to.now × (n < nodes) }
+    requires { WellFormed first.now × WellFormed second.now × From Kind.Nodes first.now second.now from.now
+        × To Kind.Machines first.now second.now to.now × (n < nodes) }
     ensures { result ≡ node_field (rooted_tree first.now second.now h.root h.first h.second h.top) n 0 }
 {
     if n == h.second {
@@ -227,13 +226,13 @@ fn merged_owner(first: &[u32], second: &[u32], from: &[u32], to: &[u32], h: NewR
     if n == h.first {
         return h.root;
     }
-    beside_node(first, second, from, to, n, 0)
+    beside_field(first, second, Kind::Nodes, from, to, n, 0)
 }
 
 // The machine that node n holds in the merged book.
 fn merged_below(first: &[u32], second: &[u32], from: &[u32], to: &[u32], h: NewRoot, n: u32) -> u32
-    requires { WellFormed first.now × WellFormed second.now × NodeFrom first.now second.now from.now
-        × MachineTo first.now second.now to.now × (n < nodes) }
+    requires { WellFormed first.now × WellFormed second.now × From Kind.Nodes first.now second.now from.now
+        × To Kind.Machines first.now second.now to.now × (n < nodes) }
     ensures { result ≡ node_field (rooted_tree first.now second.now h.root h.first h.second h.top) n 1 }
 {
     if n == h.second {
@@ -242,7 +241,7 @@ fn merged_below(first: &[u32], second: &[u32], from: &[u32], to: &[u32], h: NewR
     if n == h.first {
         return book::root(first);
     }
-    beside_node(first, second, from, to, n, 1)
+    beside_field(first, second, Kind::Nodes, from, to, n, 1)
 }
 
 // Writes the merged book's machines, its root being there.
@@ -254,21 +253,19 @@ fn write_machines(
     h: NewRoot,
     book: &mut [u32],
 )
-    requires { WellFormed first.now × WellFormed second.now × MachineFrom first.now second.now from.now
-        × NodeTo first.now second.now to.now
+    requires { WellFormed first.now × WellFormed second.now × From Kind.Machines first.now second.now from.now
+        × To Kind.Nodes first.now second.now to.now
         × Recorded book.old (rooted_tree first.now second.now h.root h.first h.second h.top) 0 0 0 }
     ensures { Recorded book.new
         (rooted_tree first.now second.now h.root h.first h.second h.top) machines 0 0 }
 {
-    let mut m: u32 = 0;
-    while m < book::MACHINES {
+    for m in 0..book::MACHINES {
         let holder = merged_holder(first, second, from, to, h, m);
         let start = merged_start(first, second, from, to, h, m);
-        let leave = beside_leave(first, second, from, m);
+        let leave = beside_charge(first, second, Kind::Machines, from, m);
         book::set_holder(book, m, holder);
         book::set_start(book, m, start);
         book::set_leave(book, m, leave);
-        m += 1;
     }
 }
 
@@ -282,16 +279,14 @@ fn write_transitions(
     n: u32,
     book: &mut [u32],
 )
-    requires { WellFormed first.now × WellFormed second.now × NodeFrom first.now second.now from.now
-        × NodeTo first.now second.now to.now × NodesMove first.now second.now × (n < nodes) × (length book.old ≡ book_length) }
+    requires { WellFormed first.now × WellFormed second.now × From Kind.Nodes first.now second.now from.now
+        × To Kind.Nodes first.now second.now to.now × NodesMove first.now second.now × (n < nodes) × (length book.old ≡ book_length) }
     ensures { (r a b s : ℕ) → Recorded book.old (rooted_tree first.now second.now r a b s) machines n 2
         → Recorded book.new (rooted_tree first.now second.now r a b s) machines n node_fields }
 {
-    let mut x: u32 = 0;
-    while x < book::COMMANDS {
+    for x in 0..book::COMMANDS {
         let w = beside_transition(first, second, from, to, n, x);
         book::set_transition(book, n, x, w);
-        x += 1;
     }
 }
 
@@ -306,8 +301,8 @@ fn write_node(
     n: u32,
     book: &mut [u32],
 )
-    requires { WellFormed first.now × WellFormed second.now × MachineTo first.now second.now machine_to.now
-        × NodeTo first.now second.now node_to.now × NodeFrom first.now second.now node_from.now × NodesMove first.now second.now
+    requires { WellFormed first.now × WellFormed second.now × To Kind.Machines first.now second.now machine_to.now
+        × To Kind.Nodes first.now second.now node_to.now × From Kind.Nodes first.now second.now node_from.now × NodesMove first.now second.now
         × (n < nodes) × Recorded book.old (rooted_tree first.now second.now h.root h.first h.second h.top) machines n 0 }
     ensures { Recorded book.new
         (rooted_tree first.now second.now h.root h.first h.second h.top) machines (n + 1) 0 }
@@ -317,7 +312,7 @@ fn write_node(
     book::set_owner(book, n, owner);
     book::set_below(book, n, below);
     write_transitions(first, second, node_from, node_to, n, book);
-    let hold = beside_hold(first, second, node_from, n);
+    let hold = beside_charge(first, second, Kind::Nodes, node_from, n);
     book::set_hold(book, n, hold);
 }
 
@@ -325,23 +320,28 @@ fn write_node(
 fn write_book(
     first: &[u32],
     second: &[u32],
-    machine_to: &[u32],
-    machine_from: &[u32],
-    node_to: &[u32],
-    node_from: &[u32],
+    machines: &Moves<64>,
+    nodes: &Moves<256>,
     h: NewRoot,
     book: &mut [u32],
 )
-    requires { MoveLists first.now second.now machine_to.now machine_from.now node_to.now node_from.now
+    requires { MoveLists first.now second.now machines.now.to machines.now.from nodes.now.to nodes.now.from
         × NodesMove first.now second.now × (length book.old ≡ book_length) }
     ensures { book.new ≡ encode (rooted_tree first.now second.now h.root h.first h.second h.top) }
 {
     book::set_root(book, h.root);
-    write_machines(first, second, machine_from, node_to, h, book);
-    let mut n: u32 = 0;
-    while n < book::NODES {
-        write_node(first, second, machine_to, node_to, node_from, h, n, book);
-        n += 1;
+    write_machines(first, second, &machines.from, &nodes.to, h, book);
+    for n in 0..book::NODES {
+        write_node(
+            first,
+            second,
+            &machines.to,
+            &nodes.to,
+            &nodes.from,
+            h,
+            n,
+            book,
+        );
     }
 }
 
@@ -353,90 +353,60 @@ fn too_deep(first: &[u32], second: &[u32]) -> bool
     judging::any_lowest(first) || judging::any_lowest(second)
 }
 
-// Whether there is no number for the new root or for the higher of its nodes.
-fn too_few(root: u32, node: u32) -> bool
-    ensures { result ≡ (eqb root absent || eqb node absent) }
-{
-    root == book::ABSENT || node == book::ABSENT
-}
-
-// The refusal of two well-formed books, 0 where there is none: 12 (over 8 levels), then 19 (too few numbers).
-fn refusal(deep: bool, few: bool) -> u32
-    ensures { result ≡ cond deep 12 (cond few 19 0) }
-{
-    if deep {
-        return 12;
-    }
-    if few {
-        return 19;
-    }
-    0
-}
-
-// Merges two well-formed books: gives 0 and writes both lists; or a refusal, and then writes nothing.
-fn merge_sound(first: &[u32], second: &[u32], book: &mut [u32], sheet: &mut [u32]) -> u32
+// Merges two well-formed books and writes both lists; or refuses, and then writes nothing.
+fn merge_sound(
+    first: &[u32],
+    second: &[u32],
+    book: &mut [u32],
+    sheet: &mut [u32],
+) -> Result<(), Refusal>
     requires { WellFormed first.now × WellFormed second.now × RightLengths book.old sheet.old }
     ensures { InOrder (tree_refusals (tree_of first.now) (tree_of second.now))
-        (λ k. (result ≡ k) × (book.new ≡ book.old) × (sheet.new ≡ sheet.old))
-        (MergeDone (tree_of first.now) (tree_of second.now) result book.new sheet.new) }
+        (λ k. (status_of result ≡ k) × (book.new ≡ book.old) × (sheet.new ≡ sheet.old))
+        (MergeDone (tree_of first.now) (tree_of second.now) (status_of result) book.new sheet.new) }
 {
-    let mut machine_to = [0u32; 64];
-    let mut machine_from = [0u32; 64];
-    let mut node_to = [0u32; 256];
-    let mut node_from = [0u32; 256];
-    let root = move_machines(first, second, &mut machine_to, &mut machine_from);
-    let nodes = move_nodes(first, second, &mut node_to, &mut node_from);
-    let higher = nodes.second;
-    let number = refusal(too_deep(first, second), too_few(root, higher));
-    if number != 0 {
-        return number;
+    if too_deep(first, second) {
+        return Err(Refusal::TooDeep);
     }
-    let top = machine_to[book::root(second) as usize];
+    let machines: Moves<64> = renumber(first, second, Kind::Machines);
+    let nodes: Moves<256> = renumber(first, second, Kind::Nodes);
     let above = NewRoot {
-        root: root,
-        first: nodes.first,
-        second: higher,
-        top: top,
+        root: machines.next.ok_or(Refusal::TooFewLeft)?,
+        first: nodes.next.ok_or(Refusal::TooFewLeft)?,
+        second: nodes.after.ok_or(Refusal::TooFewLeft)?,
+        top: machines.to[book::root(second) as usize],
     };
-    write_book(
-        first,
-        second,
-        &machine_to,
-        &machine_from,
-        &node_to,
-        &node_from,
-        above,
-        book,
-    );
+    write_book(first, second, &machines, &nodes, above, book);
     opening::open_sheet(book, sheet);
-    0
+    Ok(())
 }
 
-// Merge: writes a third book and its sheet from two books, and gives 0. The first keeps its numbers; the second's machines and nodes move, in
+// Merge: writes a third book and its sheet from two books. The first keeps its numbers; the second's machines and nodes move, in
 // rising order, to the lowest that the first does not use. A new root takes the next lowest, with two nodes: the lower is its start and holds the
 // first's root, the other the second's. Every machine in use is marked. It refuses 1 (a wrong length of any list), 2 (a book not well formed), 12 (over 8
 // levels), 19 (too few numbers) and then writes nothing.
-pub fn merge(first: &[u32], second: &[u32], book: &mut [u32], sheet: &mut [u32]) -> u32
-    ensures { MergeSays first.now second.now book.old sheet.old result
+pub fn merge(
+    first: &[u32],
+    second: &[u32],
+    book: &mut [u32],
+    sheet: &mut [u32],
+) -> Result<(), Refusal>
+    ensures { MergeSays first.now second.now book.old sheet.old (status_of result)
         book.new sheet.new }
 {
     if first.len() != book::BOOK {
-        return 1;
+        return Err(Refusal::WrongLength);
     }
     if second.len() != book::BOOK {
-        return 1;
+        return Err(Refusal::WrongLength);
     }
     if book.len() != book::BOOK {
-        return 1;
+        return Err(Refusal::WrongLength);
     }
     if sheet.len() != sheet::SHEET {
-        return 1;
+        return Err(Refusal::WrongLength);
     }
-    if !wellformed::well_formed(first) {
-        return 2;
-    }
-    if !wellformed::well_formed(second) {
-        return 2;
-    }
+    wellformed::judge(first)?;
+    wellformed::judge(second)?;
     merge_sound(first, second, book, sheet)
 }

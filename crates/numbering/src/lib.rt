@@ -14,12 +14,10 @@ fn next_from(list: &[u32], v: u32, i: u32) -> u32
     requires { (i ≤ length list.now) × (length list.now < absent) }
     ensures { result ≡ word (ranked (length list.now) (has list.now v) (count_below i (has list.now v))) }
 {
-    let mut k = i;
-    while (k as usize) < list.len() {
+    for k in i..list.len() as u32 {
         if list[k as usize] == v {
             return k;
         }
-        k += 1;
     }
     book::ABSENT
 }
@@ -46,15 +44,13 @@ pub fn moves(list: &[u32], v: u32, other: &[u32], w: u32, out: &mut [u32]) -> u3
         (count_below (length list.now) (has list.now v))) }
 {
     let mut next = next_from(other, w, 0);
-    let mut d: u32 = 0;
-    while (d as usize) < list.len() {
-        if list[d as usize] == v {
-            out[d as usize] = next;
+    for (d, word) in list.iter().enumerate() {
+        if *word == v {
+            out[d] = next;
             next = after(other, w, next);
         } else {
-            out[d as usize] = book::ABSENT;
+            out[d] = book::ABSENT;
         }
-        d += 1;
     }
     next
 }

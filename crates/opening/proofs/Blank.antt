@@ -1,7 +1,5 @@
 -- A book with no tree, and a sheet that is blank but for its marks, as they are written record by record. Assumes nothing.
 use mathlib.Core.Path.{◌≡◌, refl, sym, ◌∙◌, ap}
-use mathlib.Core.Logic.{⊎_elim}
-use mathlib.Core.Bool.{Bool}
 use mathlib.Core.Option.{Option, none}
 use mathlib.Core.List.{List}
 use Prim.Native.Nat.{ℕ, zero, suc, ◌+◌, ◌≤◌, ◌<◌}
@@ -10,17 +8,15 @@ use native.Mathlib.Nat.{lt_of_not-le}
 use native.Mathlib.Omega.{arith}
 use lib.ListN.{length}
 use borrow.Author.Tests.{le-ltb}
-use Rattle.definitions.specs.Basics.{put, is_some}
+use Rattle.definitions.specs.Basics.{is_some}
 use Rattle.definitions.specs.Limits.{machines, nodes, commands, sheet_length, absent}
-use Rattle.definitions.specs.Tree.{Tree, Transition, used_machine, with_root}
+use Rattle.definitions.specs.Tree.{Tree, Transition, used_machine}
 use Rattle.definitions.specs.Book.{number, under, tree_of, machine_word, node_word, transition_of}
 use Rattle.definitions.specs.Sheet.{Rows, rows_of, encode_rows, machine_row_word, node_row_word, cost_of}
 use Rattle.definitions.specs.Open.{open_rows}
 use Rattle.opening.specs.Rows.{last_under, row_owner, row_below, next_lower, neighbour, linked, grown}
-use Rattle.definitions.proofs.Options.{equal_or_not, put_same, put_other}
 use Rattle.definitions.proofs.Words.{same_tree, same_rows, marks_words}
-use Rattle.book.specs.Fields.{without_machine, without_node}
-use Rattle.sheet.specs.Fields.{Marks, with_mark, with_blank_machine, with_blank_node}
+use Rattle.sheet.specs.Fields.{Marks}
 use Rattle.opening.proofs.Growth.{under_out, under_none}
 
 -- ---- one number after the other
@@ -28,11 +24,6 @@ use Rattle.opening.proofs.Growth.{under_out, under_none}
 -- two functions agree at the numbers under k
 abbrev Upto : {A : Type 0} → ℕ → (ℕ → A) → (ℕ → A) → Type 0
 Upto k f g = (i : ℕ) → i < k → f i ≡ g i
-
--- and at one more, where g's value is put there
-upto_more : {A : Type 0} (k : ℕ) (f g : ℕ → A) → Upto k f g → Upto (k + 1) (put f k (g k)) g
-upto_more k f g less i h =
-    ⊎_elim (λ e. rw e (put_same f k (g k))) (λ other. put_other f k (g k) i other ∙ less i (omega (arith, other))) (equal_or_not i k)
 
 -- and at all, where they do from the limit on
 whole : {A : Type 0} (limit : ℕ) (f g : ℕ → A) → Upto limit f g → ((i : ℕ) → limit ≤ i → f i ≡ g i) → (i : ℕ) → f i ≡ g i
@@ -55,48 +46,6 @@ pub record Cleared (t : Tree) (m n : ℕ) : Type 0 where
   pub transition : Upto n t.transition (λ i x. none)
   pub hold : Upto n t.hold (λ i. 0)
   pub leave : Upto m t.leave (λ i. 0)
-
--- at first
-pub cleared_none : (t : Tree) → Cleared (with_root t absent) 0 0
-cleared_none t =
-    record {
-      root = refl;
-      start = λ i h. absurd (omega arith);
-      holder = λ i h. absurd (omega arith);
-      owner = λ i h. absurd (omega arith);
-      below = λ i h. absurd (omega arith);
-      transition = λ i h. absurd (omega arith);
-      hold = λ i h. absurd (omega arith);
-      leave = λ i h. absurd (omega arith);
-    }
-
--- one machine more
-pub cleared_machine : {t : Tree} {m n : ℕ} → Cleared t m n → Cleared (without_machine t m) (m + 1) n
-cleared_machine {t} {m} less =
-    record {
-      root = less.root;
-      start = upto_more m t.start (λ i. none) less.start;
-      holder = upto_more m t.holder (λ i. none) less.holder;
-      owner = less.owner;
-      below = less.below;
-      transition = less.transition;
-      hold = less.hold;
-      leave = upto_more m t.leave (λ i. 0) less.leave;
-    }
-
--- one node more
-pub cleared_node : {t : Tree} {m n : ℕ} → Cleared t m n → Cleared (without_node t n) m (n + 1)
-cleared_node {t} {m} {n} less =
-    record {
-      root = less.root;
-      start = less.start;
-      holder = less.holder;
-      owner = upto_more n t.owner (λ i. none) less.owner;
-      below = upto_more n t.below (λ i. none) less.below;
-      transition = upto_more n t.transition (λ i x. none) less.transition;
-      hold = upto_more n t.hold (λ i. 0) less.hold;
-      leave = less.leave;
-    }
 
 -- a book in which all is cleared has none of a table's rows
 pub cleared_all : (ws rows : List ℕ) → Cleared (tree_of ws) machines nodes → tree_of ws ≡ grown rows 0 absent
@@ -129,43 +78,6 @@ pub record Opened (t : Tree) (r : Rows) (m n : ℕ) : Type 0 where
   pub cost : Upto n r.cost (λ i. none)
   pub before : Upto n r.before (λ i. none)
   pub by : Upto n r.by (λ i. none)
-
--- at first
-pub opened_none : (t : Tree) (r : Rows) → Opened t r 0 0
-opened_none t r =
-    record {
-      stale = λ i h. absurd (omega arith);
-      exit = λ i h. absurd (omega arith);
-      last = λ i h. absurd (omega arith);
-      cost = λ i h. absurd (omega arith);
-      before = λ i h. absurd (omega arith);
-      by = λ i h. absurd (omega arith);
-    }
-
--- one machine more
-pub opened_machine : {t : Tree} {r : Rows} {m n : ℕ} (b : Bool) → b ≡ used_machine t m → Opened t r m n
-    → Opened t (with_blank_machine (with_mark r m b) m) (m + 1) n
-opened_machine {t} {r} {m} b same less =
-    record {
-      stale = λ i h. ap (λ c. put r.stale m c i) same ∙ upto_more m r.stale (used_machine t) less.stale i h;
-      exit = upto_more m r.exit (λ i x. none) less.exit;
-      last = upto_more m r.last (λ i x. none) less.last;
-      cost = less.cost;
-      before = less.before;
-      by = less.by;
-    }
-
--- one node more
-pub opened_node : {t : Tree} {r : Rows} {m n : ℕ} → Opened t r m n → Opened t (with_blank_node r n) m (n + 1)
-opened_node {t} {r} {m} {n} less =
-    record {
-      stale = less.stale;
-      exit = less.exit;
-      last = less.last;
-      cost = upto_more n r.cost (λ i. none) less.cost;
-      before = upto_more n r.before (λ i. none) less.before;
-      by = upto_more n r.by (λ i. none) less.by;
-    }
 
 -- a sheet with such rows for all machines and nodes is the opening's
 pub opened_all : (book sheet : List ℕ) → length sheet ≡ sheet_length → Marks sheet → Opened (tree_of book) (rows_of sheet) machines nodes

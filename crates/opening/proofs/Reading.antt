@@ -3,12 +3,10 @@ use mathlib.Core.Path.{◌≡◌, refl, sym, ◌∙◌, ap, ap₂}
 use mathlib.Core.Logic.{⊎_elim}
 use mathlib.Core.Bool.{Bool, true, false, cond, not, ◌&&◌, not-not}
 use mathlib.Core.Option.{none, some}
-use mathlib.Core.List.{[], List, ◌∷◌}
-use Prim.Native.Nat.{ℕ, zero, suc, ◌+◌, ◌*◌, ◌-◌, ◌<◌}
-use native.Mathlib.Nat.{not-suc-le-zero, le_of_suc-le-suc}
+use mathlib.Core.List.{List}
+use Prim.Native.Nat.{ℕ, suc, ◌+◌, ◌*◌, ◌-◌, ◌<◌}
 use native.Mathlib.Omega.{arith}
 use lib.Dec.{eqb, ltb}
-use lib.ListN.{length, get_or}
 use borrow.Author.Tests.{eq-eqb, ne_eqb}
 use Rattle.definitions.specs.Basics.{is_some, is_at}
 use Rattle.definitions.specs.Limits.{machines, nodes, costs, absent}
@@ -18,12 +16,6 @@ use Rattle.opening.specs.Rows.{last_under, row_owner, next_lower, neighbour, fre
 use Rattle.definitions.proofs.Options.{equal_or_not, some_same}
 use Rattle.definitions.proofs.Words.{transition_word_lem}
 use Rattle.opening.proofs.Last.{last_is, last_skip}
-
--- what a list holds at a place inside it does not depend on what it gives past its end
-pub get_d_any : (l : List ℕ) (i d e : ℕ) → i < length l → get_or l i d ≡ get_or l i e
-get_d_any [] i d e h = absurd (not-suc-le-zero h)
-get_d_any (x ∷ xs) zero d e h = refl
-get_d_any (x ∷ xs) (suc i) d e h = get_d_any xs i d e (le_of_suc-le-suc h)
 
 -- the word of a transition to a neighbour
 pub neighbour_word : (v : ℕ) → v < nodes → transition_of (v * costs + 1) ≡ neighbour (some v)

@@ -13,7 +13,10 @@ ghost use Rattle.definitions.specs.Open.{row_length, row_count, cell};
 ghost use Rattle.opening.specs.Rows.{next_lower, grown, free, root_of, row_tree};
 ghost use Rattle.definitions.specs.Calls.{OpenSays};
 ghost use Rattle.book.specs.Fields.{Holds};
+ghost use Rattle.refusals.specs.Meaning.{status_of};
 ghost use Rattle.opening.specs.Writes.{OpenedAs, with_held, with_started, with_links};
+
+use refusals::Refusal;
 
 mod table;
 
@@ -26,15 +29,11 @@ fn clear(book: &mut [u32])
     ensures { (rows : List ℕ) → Holds book.new (grown rows 0 absent) }
 {
     book::set_root(book, book::ABSENT);
-    let mut m: u32 = 0;
-    while m < book::MACHINES {
+    for m in 0..book::MACHINES {
         book::clear_machine(book, m);
-        m += 1;
     }
-    let mut n: u32 = 0;
-    while n < book::NODES {
+    for n in 0..book::NODES {
         book::clear_node(book, n);
-        n += 1;
     }
 }
 
@@ -56,9 +55,7 @@ fn lower(rows: &[u32], n: u32) -> u32
     if owner == book::ABSENT {
         return book::ABSENT;
     }
-    let mut i = n;
-    while 0 < i {
-        i -= 1;
+    for i in (0..n).rev() {
         if row(rows, i, 0) == owner {
             return i;
         }
@@ -120,10 +117,8 @@ fn set_rows(book: &mut [u32], rows: &[u32])
     ensures { Holds book.new (grown rows.now (row_count rows.now) absent) }
 {
     let count = rows.len() / ROW;
-    let mut n: u32 = 0;
-    while (n as usize) < count {
+    for n in 0..count as u32 {
         set_row(book, rows, n);
-        n += 1;
     }
 }
 
@@ -144,12 +139,10 @@ fn root(book: &[u32]) -> u32
     ensures { result ≡ root_of (tree_of book.now) }
 {
     let mut r = book::ABSENT;
-    let mut m: u32 = 0;
-    while m < book::MACHINES {
+    for m in 0..book::MACHINES {
         if is_free(book, m) {
             r = m;
         }
-        m += 1;
     }
     r
 }
@@ -182,16 +175,12 @@ pub fn open_sheet(book: &[u32], sheet: &mut [u32])
     ensures { sheet.new ≡ encode_rows (open_rows (tree_of book.now)) }
 {
     sheet::clear_marks(sheet);
-    let mut m: u32 = 0;
-    while m < book::MACHINES {
+    for m in 0..book::MACHINES {
         sheet::set_stale(sheet, m, mark(book, m));
         sheet::blank_machine_row(sheet, m);
-        m += 1;
     }
-    let mut n: u32 = 0;
-    while n < book::NODES {
+    for n in 0..book::NODES {
         sheet::blank_node_row(sheet, n);
-        n += 1;
     }
 }
 
@@ -205,33 +194,30 @@ pub fn open_rows(book: &mut [u32], sheet: &mut [u32], rows: &[u32])
     open_sheet(book, sheet);
 }
 
-// Opens the tree of a table's rows where both lists have their lengths, and gives 0; else 1, and nothing is written.
-fn open_checked(book: &mut [u32], sheet: &mut [u32], rows: &[u32]) -> u32
+// Opens the tree of a table's rows where both lists have their lengths; else it refuses 1, and nothing is written.
+fn open_checked(book: &mut [u32], sheet: &mut [u32], rows: &[u32]) -> Result<(), Refusal>
     requires { row_count rows.now ≤ nodes }
-    ensures { OpenedAs (row_tree rows.now) book.old sheet.old result book.new sheet.new }
+    ensures { OpenedAs (row_tree rows.now) book.old sheet.old (status_of result) book.new sheet.new }
 {
-    if book.len() != book::BOOK {
-        return 1;
-    }
-    if sheet.len() != sheet::SHEET {
-        return 1;
+    if book.len() != book::BOOK || sheet.len() != sheet::SHEET {
+        return Err(Refusal::WrongLength);
     }
     open_rows(book, sheet, rows);
-    0
+    Ok(())
 }
 
-// Open fresh: makes root 0 with start node 0, marked, in the book and the sheet, and gives 0. It refuses a wrong length of either list
-// with 1 and then writes nothing.
-pub fn open_fresh(book: &mut [u32], sheet: &mut [u32]) -> u32
-    ensures { OpenSays fresh book.old sheet.old result book.new sheet.new }
+// Open fresh: makes root 0 with start node 0, marked, in the book and the sheet. It refuses a wrong length of either list with 1 and then
+// writes nothing.
+pub fn open_fresh(book: &mut [u32], sheet: &mut [u32]) -> Result<(), Refusal>
+    ensures { OpenSays fresh book.old sheet.old (status_of result) book.new sheet.new }
 {
     open_checked(book, sheet, &table::FRESH)
 }
 
-// Open ladder: makes the ladder's 63 machines, all marked, in the book and the sheet, and gives 0. It refuses a wrong length of either
-// list with 1 and then writes nothing.
-pub fn open_ladder(book: &mut [u32], sheet: &mut [u32]) -> u32
-    ensures { OpenSays ladder book.old sheet.old result book.new sheet.new }
+// Open ladder: makes the ladder's 63 machines, all marked, in the book and the sheet. It refuses a wrong length of either list with 1 and
+// then writes nothing.
+pub fn open_ladder(book: &mut [u32], sheet: &mut [u32]) -> Result<(), Refusal>
+    ensures { OpenSays ladder book.old sheet.old (status_of result) book.new sheet.new }
 {
     open_checked(book, sheet, &table::LADDER)
 }

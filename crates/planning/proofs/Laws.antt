@@ -1,34 +1,31 @@
--- States counted, stale machines looked for, and what the search and the expansion make of a plan. Assumes nothing.
+-- What the search and the expansion make of a plan. Assumes nothing.
 use mathlib.Core.Path.{◌≡◌, refl, ap₂, subst}
-use mathlib.Core.Logic.{inl, inr, ⊎_elim}
+use mathlib.Core.Logic.{inl, inr}
 use mathlib.Core.Bool.{Bool, true, false, cond}
 use mathlib.Core.Option.{none, some}
 use mathlib.Core.List.{[], List, ◌∷◌, ◌++◌}
-use Prim.Native.Nat.{ℕ, suc, ◌+◌, ◌-◌, ◌≤◌, ◌<◌}
+use Prim.Native.Nat.{ℕ, ◌-◌, ◌≤◌, ◌<◌}
 use native.Mathlib.Omega.{arith}
 use lib.Dec.{eqb, ltb}
 use lib.ListN.{length, drop, get_or}
 use borrow.Author.Tests.{eq-eqb, ne_eqb, lt-ltb}
-use Rattle.definitions.specs.Basics.{count_below}
-use Rattle.definitions.specs.Limits.{machines, nodes, absent, largest_plan_cost}
-use Rattle.definitions.specs.Tree.{Tree, Sound, is_state, states}
-use Rattle.definitions.specs.Book.{word, under, tree_of}
+use Rattle.definitions.specs.Limits.{nodes, largest_plan_cost}
+use Rattle.definitions.specs.Tree.{Tree, states}
+use Rattle.definitions.specs.Book.{under, tree_of}
 use Rattle.definitions.specs.Sheet.{rows_of}
 use Rattle.definitions.specs.Answer.{gives, refuses}
 use Rattle.definitions.specs.Calls.{Plan}
-use Rattle.definitions.proofs.Options.{true_false, decided}
-use Rattle.definitions.proofs.Words.{present_word, no_owner, no_below}
 use Rattle.definitions.proofs.Simple.{state_test}
 use Rattle.plantheory.specs.Search.{opened_for}
 use Rattle.plantheory.proofs.Landing.{opening_for, opened_first, plain_position}
 use Rattle.plantheory.proofs.Planned.{Planned, plan_good, plan_bounds}
 use Rattle.search.specs.Search.{unreached, reached, distance_of, name_of}
-use Rattle.sheet.proofs.Reading.{rows_of_read}
 use Rattle.crossing.specs.Crossing.{Crossed}
 use Rattle.expanding.specs.Names.{Traceable}
 use Rattle.expanding.specs.Expanding.{plan_of}
 use Rattle.expanding.proofs.Traceable.{plan_traceable}
-use Rattle.planning.specs.Meaning.{Plannable, Answers}
+use Rattle.readiness.specs.Judged.{Ready}
+use Rattle.planning.specs.Meaning.{Answers}
 
 -- ---- the distance that a word says
 
@@ -44,68 +41,9 @@ distance_some : (dist : List ℕ) {b : ℕ} → b < nodes → (get_or dist b 0 �
 unfolding distance_of under reached
 distance_some dist {b} small there = rw (lt-ltb b nodes small, ne_eqb (get_or dist b 0) unreached there)
 
--- ---- states, one node after another
-
-module _ {t : Tree} (s : Sound t) (n : ℕ) {o : ℕ} (own : o ≡ word (t.owner n)) where
-  -- an unused node is no state, nor is a refined one; a plain node in use is one
-  pub unused_state : o ≡ absent → ◌≡◌ {A = ℕ} 0 (cond (is_state t n) 1 0)
-  unused_state at = rw (no_owner t s n own at)
-
-  module _ (used : o ≡ absent → ⊥) {b : ℕ} (bel : b ≡ word (t.below n)) where
-    pub refined_state : (b ≡ absent → ⊥) → ◌≡◌ {A = ℕ} 0 (cond (is_state t n) 1 0)
-    refined_state held = rw (present_word (t.owner n) own used, present_word (t.below n) bel held)
-
-    pub plain_state : b ≡ absent → ◌≡◌ {A = ℕ} 1 (cond (is_state t n) 1 0)
-    plain_state at = rw (present_word (t.owner n) own used, no_below t s n bel at)
-
--- the states below n are counted
-pub record Counted (t : Tree) (n count : ℕ) : Type 0 where
-  pub small : n ≤ nodes
-  pub is : count ≡ count_below n (is_state t)
-  pub low : count ≤ n
-
-pub counted_none : (t : Tree) → Counted t 0 0
-unfolding count_below
-counted_none t = record { small = omega arith; is = refl; low = omega arith }
-
-pub counted_more : {t : Tree} {n count one : ℕ} → Counted t n count → n < nodes → one ≡ cond (is_state t n) 1 0 → Counted t (n + 1) (count + one)
-unfolding count_below
-counted_more {t} {n} {count} {one} c small e =
-    let next : n + 1 ≡ suc n = omega arith in
-    let low : one ≤ 1 = rw e (bit (is_state t n)) in
-    rw next
-    (record {
-      small = omega arith;
-      is = omega (arith, c.is, e);
-      low = omega (arith, c.low);
-    })
-  where
-    bit : (b : Bool) → cond b 1 0 ≤ 1
-    bit true = omega arith
-    bit false = omega arith
-
-pub counted_all : {t : Tree} {n count : ℕ} → Counted t n count → nodes ≤ n → count ≡ states t
-unfolding states
-counted_all {t} {n} {count} c all =
-    let same : n ≡ nodes = omega (arith, c.small) in
-    rw same at c.is
-
--- ---- stale machines
-
--- none of the machines below m is stale
-abbrev pub FreshBelow : List ℕ → ℕ → Type 0
-FreshBelow sheet m = (p : ℕ) → p < m → (rows_of sheet).stale p ≡ false
-
--- no machine is where none of the 64 is
-pub all_fresh : (sheet : List ℕ) {m : ℕ} → machines ≤ m → FreshBelow sheet m → (p : ℕ) × ((rows_of sheet).stale p ≡ true) → ⊥
-all_fresh sheet all fresh (p, stale) = true_false stale (fresh p (omega (arith, (rows_of_read sheet).stale p stale)))
-
-pub none_stale_lem : (sheet : List ℕ) → ((p : ℕ) × ((rows_of sheet).stale p ≡ true) → ⊥) → (p : ℕ) → (rows_of sheet).stale p ≡ false
-none_stale_lem sheet never p = ⊎_elim (λ stale. absurd (never (p, stale))) (λ e. e) (decided ((rows_of sheet).stale p))
-
 -- ---- the plan
 
-module _ {book sheet : List ℕ} {a b room : ℕ} (p : Plannable book sheet a b room) {dist before by : List ℕ}
+module _ {book sheet : List ℕ} {a b : ℕ} (p : Ready book sheet a b) {dist before by : List ℕ}
     (crossed : Crossed (tree_of book) (rows_of sheet) a b dist before by) where
   abbrev t : Tree
   t = tree_of book
@@ -135,8 +73,8 @@ module _ {book sheet : List ℕ} {a b room : ℕ} (p : Plannable book sheet a b 
     pub cost_fits : get_or dist b 0 ≤ largest_plan_cost
     cost_fits = bounds.1
 
-    pub list_fits : length list ≤ room
-    list_fits = omega (arith, bounds.0, p.enough)
+    pub list_fits : {room : ℕ} → states t - 1 ≤ room → length list ≤ room
+    list_fits enough = omega (arith, bounds.0, enough)
 
     -- the names lead from b back to a
     pub names_lead : Traceable (name_of nodes before) (name_of nodes by) b

@@ -1,5 +1,5 @@
 -- What holds before each turn of a session. Assumes nothing.
-use mathlib.Core.Path.{◌≡◌, ◌∙◌, subst}
+use mathlib.Core.Path.{◌≡◌, ◌∙◌}
 use mathlib.Core.List.{List}
 use Prim.Native.Nat.{ℕ, ◌+◌, ◌≤◌}
 use native.Mathlib.Omega.{arith}
@@ -13,8 +13,8 @@ use Rattle.definitions.specs.Truth.{TrueSheet}
 use Rattle.definitions.specs.Open.{fresh_tree, open_rows}
 use Rattle.lines.specs.Turn.{Repeats, over, again}
 use Rattle.lines.specs.Meaning.{TurnSays}
-use Rattle.lines.specs.declared.Turn.{Turn}
-use Rattle.lines.specs.declared.Turn.TheVariants.{Line, End}
+use Rattle.lines.specs.declared.Line.{Line}
+use Rattle.std.proofs.Common.{Some, None}
 use Rattle.lines.proofs.Session.{session_prints}
 use Rattle.printing.specs.Meaning.{OpenedFresh, LinesMade, SessionMade}
 
@@ -36,8 +36,8 @@ run_starts formed filled =
 
 module _ {input : List ℕ} {t : Tree} {r : Rows} {count at : ℕ} {book sheet : List ℕ} (run : Running input t r count at book sheet) {list book' sheet' list' : List ℕ} where
   -- after a turn that gives a line
-  pub run_on : {size next : ℕ} → TurnSays input book sheet at list (Line size next) book' sheet' list'
-      → Running input t r (count + 1) next book' sheet'
+  pub run_on : {l : Line} → TurnSays input book sheet at list (Some l) book' sheet' list'
+      → Running input t r (count + 1) l.next book' sheet'
   run_on says =
       record {
         formed = says.formed;
@@ -50,7 +50,7 @@ module _ {input : List ℕ} {t : Tree} {r : Rows} {count at : ℕ} {book sheet :
       }
 
   -- after the turn at the end all are made
-  pub run_over : TurnSays input book sheet at list End book' sheet' list' → LinesMade input t r count book' sheet'
+  pub run_over : TurnSays input book sheet at list None book' sheet' list' → LinesMade input t r count book' sheet'
   run_over says =
       let (all, turns, counted) = run.rest (over says.turns) in
       record {
@@ -70,11 +70,6 @@ from_fresh {input} {book} {sheet} {count} {book'} {sheet'} fresh made = rw (fres
 pub session_made : {input : List ℕ} {count : ℕ} {book' sheet' : List ℕ}
     → LinesMade (take longest_input input) fresh_tree (open_rows fresh_tree) count book' sheet' → SessionMade input count book' sheet'
 session_made {input} made = record { made = made; prints = session_prints input made.repeats }
-
--- what became of a turn, told by its case
-pub turn_told : {input b s : List ℕ} {at : ℕ} {list : List ℕ} {turn told : Turn} {b' s' list' : List ℕ} → turn ≡ told
-    → TurnSays input b s at list turn b' s' list' → TurnSays input b s at list told b' s' list'
-turn_told {input} {b} {s} {at} {list} {b' = b'} {s' = s'} {list' = list'} e says = subst (λ (x : Turn). TurnSays input b s at list x b' s' list') e says
 
 -- an input that is no longer than what a session reads
 pub session_whole : {input : List ℕ} {count : ℕ} {book' sheet' : List ℕ} → length input ≤ longest_input

@@ -9,7 +9,7 @@ ghost use Rattle.definitions.specs.Truth.{TrueSheet};
 ghost use Rattle.definitions.specs.Open.{fresh_tree, open_rows};
 ghost use Rattle.printing.specs.Meaning.{OpenedFresh, LinesMade, SessionMade};
 
-use lines::Turn;
+use lines::Line;
 
 // The descriptor of standard output.
 const STDOUT_FILENO: i32 = 1;
@@ -17,11 +17,11 @@ const STDOUT_FILENO: i32 = 1;
 // How many bytes of its input a session reads.
 pub const INPUT: usize = 65536;
 
-// Opens fresh.
+// Opens fresh. Both lengths are right, so Open refuses nothing.
 fn open_book(book: &mut [u32; book::BOOK], sheet: &mut [u32; sheet::SHEET])
     ensures { OpenedFresh book.new sheet.new }
 {
-    opening::open_fresh(book, sheet);
+    let _ = opening::open_fresh(book, sheet);
 }
 
 // Makes the turns on an input and writes the line of each; how many lines there are.
@@ -32,18 +32,12 @@ fn print_lines(book: &mut [u32], sheet: &mut [u32], input: &[u8]) -> usize
     let mut line = [0u8; lines::LINE];
     let mut at = 0usize;
     let mut count = 0usize;
-    loop {
-        match lines::next_line(book, sheet, input, at, &mut line) {
-            Turn::Line { size, next } => {
-                io::write_all(STDOUT_FILENO, &line[..size]);
-                at = next;
-                count += 1;
-            }
-            Turn::End => {
-                return count;
-            }
-        }
+    while let Some(Line { size, next }) = lines::next_line(book, sheet, input, at, &mut line) {
+        io::write_all(STDOUT_FILENO, &line[..size]);
+        at = next;
+        count += 1;
     }
+    count
 }
 
 // Opens fresh and prints the lines for the whole of an input.

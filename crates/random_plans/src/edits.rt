@@ -10,23 +10,21 @@ pub fn unmark(s: &mut Station) {
 }
 
 // Releases every node.
-pub fn release(s: &mut Station) {
+fn release(s: &mut Station) {
     zero(s, HOLD);
 }
 
 // Takes away every leaving charge.
-pub fn waive(s: &mut Station) {
+fn waive(s: &mut Station) {
     zero(s, LEAVE);
 }
 
 // Marks machine m and all above it.
 fn mark_up(s: &mut Station, m: u32) {
     let mut at = m;
-    let mut i = 0u32;
-    while i < LEVELS {
+    for _ in 0..LEVELS {
         put(s, MARK, at, 1);
         at = get(s, OWNER, get(s, HOLDER, at));
-        i += 1;
     }
 }
 
@@ -122,51 +120,43 @@ fn is_gone(gone: &[bool; 256], n: u32) -> bool {
 
 // Finds node n and the nodes below it.
 fn find_gone(s: &Station, n: u32, gone: &mut [bool; 256]) {
-    let mut k = 0u32;
-    while k < NODES {
+    for k in 0..NODES {
         gone[k as usize] = within(s, n, k);
-        k += 1;
     }
 }
 
 // Drops the machines that a node which goes holds.
 fn drop_machines(s: &mut Station, gone: &[bool; 256]) {
-    let mut m = 0u32;
-    while m < MACHINES {
+    for m in 0..MACHINES {
         if is_gone(gone, get(s, HOLDER, m)) {
             put(s, HOLDER, m, NONE);
             put(s, START, m, NONE);
             put(s, MARK, m, 0);
             put(s, LEAVE, m, 0);
         }
-        m += 1;
     }
 }
 
 // Drops the nodes that go, and the transitions of the others into node n.
 fn drop_nodes(s: &mut Station, n: u32, gone: &[bool; 256]) {
-    let mut k = 0u32;
-    while k < NODES {
+    for k in 0..NODES {
         if is_gone(gone, k) {
             put(s, OWNER, k, NONE);
             put(s, BELOW, k, NONE);
             put(s, HOLD, k, 0);
-            drop_transitions(s, k, NONE);
+            drop_transitions(s, k, None);
         } else {
-            drop_transitions(s, k, n);
+            drop_transitions(s, k, Some(n));
         }
-        k += 1;
     }
 }
 
-// Takes away the transitions of node k into v; all of them where v is "none".
-fn drop_transitions(s: &mut Station, k: u32, v: u32) {
-    let mut x = 0u32;
-    while x < COMMANDS {
-        if v == NONE || transition(s, TARGET, k, x) == v {
+// Takes away the transitions of node k into a node, or all of them.
+fn drop_transitions(s: &mut Station, k: u32, into: Option<u32>) {
+    for x in 0..COMMANDS {
+        if into.is_none() || into == Some(transition(s, TARGET, k, x)) {
             set_transition(s, k, x, NONE, NONE);
         }
-        x += 1;
     }
 }
 
@@ -174,11 +164,9 @@ fn drop_transitions(s: &mut Station, k: u32, v: u32) {
 pub fn open_ladder(s: &mut Station) {
     begin(s, 0, 1);
     rung(s, 0);
-    let mut m = 1u32;
-    while m < 63 {
+    for m in 1..63 {
         refine(s, ladder_holder(m), m, 3 * m + 1);
         rung(s, m);
-        m += 1;
     }
 }
 

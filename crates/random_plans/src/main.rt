@@ -15,25 +15,30 @@ mod stream;
 mod tables;
 mod tally;
 
-use chance::{ANY, draw, once_in, pick};
+use chance::{Wanted, pick};
 use compare::{
-    Book, Sheet, ask, compare_no, compare_plan, compare_words, count_changed, load_both, longest,
+    Book, Sheet, ask, changed, compare_no, compare_plan, compare_words, load_both, longest,
     open_both,
 };
-use flat::Moves;
-use shapes::of;
-use station::{NODES, Station, any_charged, any_held, any_marked, is_state, states};
+use shapes::{Opening, Shape};
+use station::{
+    HOLD, LEAVE, NODES, Station, any_charged, any_held, any_marked, is_state, states, zero,
+};
 use stream::Bytes;
-use tally::{Tally, count, line, say, text};
+use tally::{Tally, count, differs, line};
+use trying::{MAST, Moves, distances, draw, number, once_in, say_no, status, text};
 
 // Opens the holding and the own station, and compares them.
 fn open(book: &mut Book, sheet: &mut Sheet, s: &mut Station, ladder: bool, tally: &mut Tally) {
-    if ladder {
-        opening::open_ladder(book, sheet);
+    let opened = if ladder {
         edits::open_ladder(s);
+        opening::open_ladder(book, sheet)
     } else {
-        opening::open_fresh(book, sheet);
         edits::begin(s, 0, 0);
+        opening::open_fresh(book, sheet)
+    };
+    if opened != Ok(()) {
+        differs(tally, b"opening", 0, status(opened.err()));
     }
     compare_words(book, sheet, s, tally);
 }
@@ -49,28 +54,19 @@ fn plan_from(
     tally: &mut Tally,
 ) {
     let mut costs = [0u32; 256];
-    flat::distances(moves, a, &mut costs);
-    let mut b = 0u32;
-    while b < NODES {
+    distances(moves, a, &mut costs);
+    for b in 0..NODES {
         if is_state(s, b) {
             let lent = if b % 2 == 0 { 255 } else { room };
             compare_plan(book, sheet, s, &costs, a, b, lent, tally);
         }
-        b += 1;
     }
 }
 
-// The moves with no node held.
-fn released_moves(s: &Station, moves: &mut Moves) {
+// The moves where a field, that of the holds or of the leaving charges, is 0 at all numbers.
+fn moves_without(s: &Station, field: u32, moves: &mut Moves) {
     let mut next = *s;
-    edits::release(&mut next);
-    flat::all_moves(&next, moves);
-}
-
-// The moves with no leaving charge.
-fn waived_moves(s: &Station, moves: &mut Moves) {
-    let mut next = *s;
-    edits::waive(&mut next);
+    zero(&mut next, field);
     flat::all_moves(&next, moves);
 }
 
@@ -84,26 +80,12 @@ fn count_from(
     tally: &mut Tally,
 ) {
     if any_held(s) {
-        count_changed(
-            s,
-            moves,
-            released,
-            a,
-            tally::AMONG_HOLDS,
-            tally::CHANGED_BY_HOLDS,
-            tally,
-        );
+        count(&mut tally.among_holds, states(s) as usize);
+        count(&mut tally.changed_by_holds, changed(s, moves, released, a));
     }
     if any_charged(s) {
-        count_changed(
-            s,
-            moves,
-            waived,
-            a,
-            tally::AMONG_CHARGES,
-            tally::CHANGED_BY_CHARGES,
-            tally,
-        );
+        count(&mut tally.among_charges, states(s) as usize);
+        count(&mut tally.changed_by_charges, changed(s, moves, waived, a));
     }
 }
 
@@ -119,30 +101,25 @@ fn plan_all(
     let mut moves = [0u32; 8192];
     flat::all_moves(s, &mut moves);
     let mut released = [0u32; 8192];
-    released_moves(s, &mut released);
+    moves_without(s, HOLD, &mut released);
     let mut waived = [0u32; 8192];
-    waived_moves(s, &mut waived);
+    moves_without(s, LEAVE, &mut waived);
     let all = states(s);
     let room = longest(all);
-    let mut a = 0u32;
-    while a < NODES {
+    for a in 0..NODES {
         if is_state(s, a) {
             if draw(seed, all) < sources {
                 count_from(s, &moves, &released, &waived, a, tally);
                 plan_from(book, sheet, s, &moves, a, room, tally);
             }
         }
-        a += 1;
     }
 }
 
 // A buffer that is too short by a byte half of the time.
 fn odd_room(s: &Station, seed: &mut u64) -> u32 {
     let least = longest(states(s));
-    if least == 0 {
-        return 255;
-    }
-    if once_in(seed, 2) {
+    if least != 0 && once_in(seed, 2) {
         return least - 1;
     }
     255
@@ -150,13 +127,11 @@ fn odd_room(s: &Station, seed: &mut u64) -> u32 {
 
 // Plans between any numbers with such buffers, where the own station says that they are refused.
 fn plan_odd(book: &Book, sheet: &Sheet, s: &Station, seed: &mut u64, tally: &mut Tally) {
-    let mut i = 0u32;
-    while i < 6 {
-        let a = pick(s, seed, ANY, 0);
-        let b = pick(s, seed, ANY, 0);
+    for _ in 0..6 {
+        let a = pick(s, seed, Wanted::Any, 0);
+        let b = pick(s, seed, Wanted::Any, 0);
         let room = odd_room(s, seed);
         compare_no(book, sheet, s, a, b, room, tally);
-        i += 1;
     }
 }
 
@@ -186,11 +161,9 @@ fn run_singles(
     tally: &mut Tally,
 ) {
     let mut bytes = [0u8; 8192];
-    let mut i = 0u32;
-    while i < 18 {
+    for _ in 0..18 {
         let length = making::single(s, seed, &mut bytes);
         load_both(book, sheet, s, &bytes, length, tally);
-        i += 1;
     }
 }
 
@@ -200,7 +173,7 @@ fn run_stream(
     sheet: &mut Sheet,
     s: &mut Station,
     seed: &mut u64,
-    shape: u32,
+    shape: &Shape,
     first: bool,
     tally: &mut Tally,
 ) {
@@ -208,15 +181,15 @@ fn run_stream(
     let mut bytes = [0u8; 8192];
     let length = making::stream(&mut next, seed, shape, first, &mut bytes);
     load_both(book, sheet, s, &bytes, length, tally);
-    plan_after(book, sheet, s, seed, of(shape, shapes::SOURCES), tally);
+    plan_after(book, sheet, s, seed, shape.sources, tally);
     run_singles(book, sheet, s, seed, tally);
 }
 
 // Counts a book, and whether it has a leaving charge at its end.
 fn count_book(s: &Station, tally: &mut Tally) {
-    count(tally, tally::BOOKS, 1);
+    count(&mut tally.books, 1);
     if any_charged(s) {
-        count(tally, tally::CHARGED_BOOKS, 1);
+        count(&mut tally.charged_books, 1);
     }
 }
 
@@ -226,10 +199,10 @@ fn open_table(
     sheet: &mut Sheet,
     s: &mut Station,
     seed: &mut u64,
-    opening: u32,
+    opening: Opening,
     tally: &mut Tally,
 ) {
-    if opening != 2 {
+    if opening != Opening::Table {
         return;
     }
     let mut rows = [0u32; 567];
@@ -243,52 +216,32 @@ fn run_book(
     sheet: &mut Sheet,
     s: &mut Station,
     seed: &mut u64,
-    shape: u32,
+    shape: &Shape,
     tally: &mut Tally,
 ) {
-    let opening = of(shape, shapes::OPENING);
-    if opening == 1 || once_in(seed, 2) {
-        open(book, sheet, s, opening == 1, tally);
+    let ladder = shape.opening == Opening::Ladder;
+    if ladder || once_in(seed, 2) {
+        open(book, sheet, s, ladder, tally);
     }
-    open_table(book, sheet, s, seed, opening, tally);
+    open_table(book, sheet, s, seed, shape.opening, tally);
     run_stream(book, sheet, s, seed, shape, true, tally);
-    let streams = of(shape, shapes::STREAMS);
-    let mut i = 0u32;
-    while i < streams {
+    for _ in 0..shape.streams {
         run_stream(book, sheet, s, seed, shape, false, tally);
-        i += 1;
     }
     count_book(s, tally);
 }
 
 // All books of a shape, and its line.
-fn run_shape(name: &[u8], shape: u32) {
+fn run_shape(name: &[u8], mut seed: u64, shape: &Shape) {
     let mut book = [0u32; compare::WORDS];
     let mut sheet = [0u32; 2880];
     let mut s = [0u32; station::WORDS];
-    let mut tally = [0u64; tally::PLACES];
-    let mut seed = 20250101 + shape as u64;
+    let mut tally = Tally::default();
     open(&mut book, &mut sheet, &mut s, false, &mut tally);
-    let books = of(shape, shapes::BOOKS);
-    let mut i = 0u32;
-    while i < books {
+    for _ in 0..shape.books {
         run_book(&mut book, &mut sheet, &mut s, &mut seed, shape, &mut tally);
-        i += 1;
     }
     line(name, &tally);
-}
-
-// Puts bytes at the front of a stream, and gives how many.
-fn copy(bytes: &[u8], stream: &mut Bytes) -> usize {
-    let mut i = 0usize;
-    while i < bytes.len() {
-        if i >= 8192 {
-            return i;
-        }
-        stream[i] = bytes[i];
-        i += 1;
-    }
-    i
 }
 
 // Writes a plan's answer with so many bytes of buffer: cost and count, or `no` and the refusal.
@@ -296,41 +249,42 @@ fn show_plan(name: &[u8], book: &Book, sheet: &Sheet, b: u32, room: u32) {
     let mut buffer = [255u8; 255];
     let answer = ask(book, sheet, 0, b, &mut buffer, room);
     text(name);
-    if answer.number != 0 {
-        say(b" no ", answer.number as u64);
-    } else {
-        say(b" ", answer.cost as u64);
-        say(b" ", answer.count as u64);
+    match answer {
+        Ok(planned) => {
+            number(planned.cost);
+            number(planned.count);
+        }
+        Err(refusal) => say_no(refusal),
     }
     text(b"\n");
 }
 
-// Loads a stream into a holding opened fresh, and plans from about so many states to all states.
+// Loads a stream into a holding opened fresh, plans from about so many states to all states, and writes its line.
 fn run_given(
+    name: &[u8],
     stream: &Bytes,
     length: usize,
     sources: u32,
     book: &mut Book,
     sheet: &mut Sheet,
-    tally: &mut Tally,
 ) {
+    let mut tally = Tally::default();
     let mut s = [0u32; station::WORDS];
     let mut seed = 1u64;
-    open(book, sheet, &mut s, false, tally);
-    load_both(book, sheet, &mut s, stream, length, tally);
-    plan_after(book, sheet, &mut s, &mut seed, sources, tally);
-    count_book(&s, tally);
+    open(book, sheet, &mut s, false, &mut tally);
+    load_both(book, sheet, &mut s, stream, length, &mut tally);
+    plan_after(book, sheet, &mut s, &mut seed, sources, &mut tally);
+    count_book(&s, &mut tally);
+    line(name, &tally);
 }
 
 // The longest line: its plan fills the buffer.
 fn line_book() {
     let mut book = [0u32; compare::WORDS];
     let mut sheet = [0u32; 2880];
-    let mut tally = [0u64; tally::PLACES];
     let mut stream = [0u8; 8192];
     let length = making::line(&mut stream);
-    run_given(&stream, length, 4, &mut book, &mut sheet, &mut tally);
-    line(b"line", &tally);
+    run_given(b"line", &stream, length, 4, &mut book, &mut sheet);
     show_plan(b"0 to 255 with 255 bytes:", &book, &sheet, 255, 255);
     show_plan(b"0 to 255 with 254 bytes:", &book, &sheet, 255, 254);
 }
@@ -339,11 +293,9 @@ fn line_book() {
 fn dearest_book() {
     let mut book = [0u32; compare::WORDS];
     let mut sheet = [0u32; 2880];
-    let mut tally = [0u64; tally::PLACES];
     let mut stream = [0u8; 8192];
     let length = making::dearest(&mut stream);
-    run_given(&stream, length, 4, &mut book, &mut sheet, &mut tally);
-    line(b"dearest", &tally);
+    run_given(b"dearest", &stream, length, 4, &mut book, &mut sheet);
     show_plan(b"0 to 255 with 248 bytes:", &book, &sheet, 255, 248);
     show_plan(b"0 to 255 with 247 bytes:", &book, &sheet, 255, 247);
     show_plan(b"0 to 9:", &book, &sheet, 9, 255);
@@ -353,14 +305,9 @@ fn dearest_book() {
 fn mast() {
     let mut book = [0u32; compare::WORDS];
     let mut sheet = [0u32; 2880];
-    let mut tally = [0u64; tally::PLACES];
     let mut stream = [0u8; 8192];
-    let length = copy(
-        b"\x10\x00\x00\x00\x11\x00\x00\x01\x11\x00\x00\x02\x12\x00\x01\x01\x00\x0A\x11\x01\x00\x0B\x14\x00\x00\x00\x00\x01\x00\x05\x14\x00\x00\x02\x00\x02\x00\x14\x14\x00\x01\x01\x00\x02\x00\x03\x14\x00\x02\x00\x00\x00\x00\x07\x14\x00\x0A\x01\x00\x0A\x00\x01\x14\x00\x0A\x02\x00\x0B\x00\x04",
-        &mut stream,
-    );
-    run_given(&stream, length, NODES, &mut book, &mut sheet, &mut tally);
-    line(b"mast", &tally);
+    stream[..70].copy_from_slice(&MAST);
+    run_given(b"mast", &stream, 70, NODES, &mut book, &mut sheet);
     show_plan(b"0 to 2 with 3 bytes:", &book, &sheet, 2, 3);
     show_plan(b"0 to 2 with 2 bytes:", &book, &sheet, 2, 2);
     show_plan(b"0 to 255:", &book, &sheet, 255, 3);
@@ -368,15 +315,15 @@ fn mast() {
 }
 
 fn main() {
-    run_shape(b"deep", 0);
-    run_shape(b"wide", 1);
-    run_shape(b"zeros", 2);
-    run_shape(b"sparse", 3);
-    run_shape(b"selves", 4);
-    run_shape(b"ladder", 5);
-    run_shape(b"crowded", 6);
-    run_shape(b"edited", 7);
-    run_shape(b"tables", 8);
+    run_shape(b"deep", 20250101, &shapes::DEEP_BOOKS);
+    run_shape(b"wide", 20250102, &shapes::WIDE_BOOKS);
+    run_shape(b"zeros", 20250103, &shapes::ZERO_BOOKS);
+    run_shape(b"sparse", 20250104, &shapes::SPARSE_BOOKS);
+    run_shape(b"selves", 20250105, &shapes::SELF_BOOKS);
+    run_shape(b"ladder", 20250106, &shapes::LADDER_BOOKS);
+    run_shape(b"crowded", 20250107, &shapes::CROWDED_BOOKS);
+    run_shape(b"edited", 20250108, &shapes::EDITED_BOOKS);
+    run_shape(b"tables", 20250109, &shapes::TABLE_BOOKS);
     mast();
     line_book();
     dearest_book();

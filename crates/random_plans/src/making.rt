@@ -1,81 +1,68 @@
 // Random streams. Each command is made for the station that the commands before it leave, so that most are taken; some are wrong on
 // purpose, and what follows them is made all the same.
-use crate::chance::{
-    ANY, ANY_MACHINE, APART, BESIDE, FREE, FREE_MACHINE, HELD, HIGH, LOWER_MACHINE, LOWEST,
-    NOT_STARTING, REFINED, ROOT_MACHINE, SAME, STARTING, USED, USED_MACHINE, draw, once_in, pick,
+use crate::chance::Wanted::{
+    Any, AnyMachine, Apart, Beside, Free, FreeMachine, Held, High, LowerMachine, Lowest,
+    NotStarting, Refined, RootMachine, Same, Starting, Used, UsedMachine,
 };
-use crate::shapes;
-use crate::shapes::of;
+use crate::chance::{Wanted, pick};
+use crate::shapes::{DEEP_BOOKS, Opening, Shape};
 use crate::station::{NODES, Station, depth};
 use crate::stream::{Bytes, Order, new_order, take};
+use trying::{draw, once_in, put, put_pair};
 
 // A kind of command: its opcode, and which machine, node and other node are picked for it.
-type Kind = [u32; 4];
+#[derive(Clone, Copy)]
+struct Kind(u32, Wanted, Wanted, Wanted);
 
-const BEGIN: Kind = [0x10, FREE_MACHINE, FREE, USED];
+const BEGIN: Kind = Kind(0x10, FreeMachine, Free, Used);
 
-const ADD: Kind = [0x11, USED_MACHINE, FREE, USED];
+const ADD: Kind = Kind(0x11, UsedMachine, Free, Used);
 
-const REFINE: Kind = [0x12, FREE_MACHINE, HIGH, FREE];
+const REFINE: Kind = Kind(0x12, FreeMachine, High, Free);
 
-const DEEPEN: Kind = [0x12, FREE_MACHINE, LOWEST, FREE];
+const DEEPEN: Kind = Kind(0x12, FreeMachine, Lowest, Free);
 
-const REMOVE: Kind = [0x13, USED_MACHINE, NOT_STARTING, USED];
+const REMOVE: Kind = Kind(0x13, UsedMachine, NotStarting, Used);
 
-const ARROW: Kind = [0x14, USED_MACHINE, USED, BESIDE];
+const ARROW: Kind = Kind(0x14, UsedMachine, Used, Beside);
 
-const SELF: Kind = [0x14, USED_MACHINE, REFINED, SAME];
+const SELF: Kind = Kind(0x14, UsedMachine, Refined, Same);
 
-const CLEAR: Kind = [0x15, USED_MACHINE, USED, USED];
+const CLEAR: Kind = Kind(0x15, UsedMachine, Used, Used);
 
-const RESTART: Kind = [0x16, USED_MACHINE, USED, USED];
+const RESTART: Kind = Kind(0x16, UsedMachine, Used, Used);
 
-const CROWN: Kind = [0x17, FREE_MACHINE, FREE, USED];
+const CROWN: Kind = Kind(0x17, FreeMachine, Free, Used);
 
-const REFRESH: Kind = [0x18, USED_MACHINE, USED, USED];
+const REFRESH: Kind = Kind(0x18, UsedMachine, Used, Used);
 
-const HOLD: Kind = [0x1A, USED_MACHINE, NOT_STARTING, USED];
+const HOLD: Kind = Kind(0x1A, UsedMachine, NotStarting, Used);
 
-const HOLD_AGAIN: Kind = [0x1A, USED_MACHINE, HELD, USED];
+const HOLD_AGAIN: Kind = Kind(0x1A, UsedMachine, Held, Used);
 
-const LEAVE: Kind = [0x1B, LOWER_MACHINE, USED, USED];
+const LEAVE: Kind = Kind(0x1B, LowerMachine, Used, Used);
 
 // Kinds that are refused: a node refined again, a start node removed, a transition into another machine, a start node held, a held node made
 // the start node, a leaving charge for the root and for a machine not in use, unknown opcodes.
-const REFINE_AGAIN: Kind = [0x12, FREE_MACHINE, REFINED, FREE];
+const REFINE_AGAIN: Kind = Kind(0x12, FreeMachine, Refined, Free);
 
-const REMOVE_START: Kind = [0x13, USED_MACHINE, STARTING, USED];
+const REMOVE_START: Kind = Kind(0x13, UsedMachine, Starting, Used);
 
-const ARROW_APART: Kind = [0x14, USED_MACHINE, USED, APART];
+const ARROW_APART: Kind = Kind(0x14, UsedMachine, Used, Apart);
 
-const HOLD_START: Kind = [0x1A, USED_MACHINE, STARTING, USED];
+const HOLD_START: Kind = Kind(0x1A, UsedMachine, Starting, Used);
 
-const RESTART_HELD: Kind = [0x16, USED_MACHINE, HELD, USED];
+const RESTART_HELD: Kind = Kind(0x16, UsedMachine, Held, Used);
 
-const LEAVE_ROOT: Kind = [0x1B, ROOT_MACHINE, USED, USED];
+const LEAVE_ROOT: Kind = Kind(0x1B, RootMachine, Used, Used);
 
-const LEAVE_FREE: Kind = [0x1B, FREE_MACHINE, USED, USED];
+const LEAVE_FREE: Kind = Kind(0x1B, FreeMachine, Used, Used);
 
-const BELOW_KNOWN: Kind = [0x0F, USED_MACHINE, USED, USED];
+const BELOW_KNOWN: Kind = Kind(0x0F, UsedMachine, Used, Used);
 
-const BETWEEN_KNOWN: Kind = [0x19, USED_MACHINE, USED, USED];
+const BETWEEN_KNOWN: Kind = Kind(0x19, UsedMachine, Used, Used);
 
-const ABOVE_KNOWN: Kind = [0x1C, USED_MACHINE, USED, USED];
-
-// Writes a byte, and gives the place after it; a full stream stays as it is.
-fn put(stream: &mut Bytes, at: usize, b: u32) -> usize {
-    if at >= 8192 {
-        return at;
-    }
-    stream[at] = (b % 256) as u8;
-    at + 1
-}
-
-// Writes two bytes, high byte first.
-fn put_pair(stream: &mut Bytes, at: usize, w: u32) -> usize {
-    let next = put(stream, at, w / 256);
-    put(stream, next, w)
-}
+const ABOVE_KNOWN: Kind = Kind(0x1C, UsedMachine, Used, Used);
 
 // Writes a node, and then a machine, a command or a hold.
 fn put_both(stream: &mut Bytes, at: usize, n: u32, b: u32) -> usize {
@@ -113,9 +100,9 @@ fn write(stream: &mut Bytes, at: usize, o: Order) -> usize {
 }
 
 // Some costs are 0, some the shape's largest, the rest anything between.
-fn random_cost(seed: &mut u64, shape: u32) -> u32 {
-    let most = of(shape, shapes::LARGEST);
-    if draw(seed, 8) < of(shape, shapes::ZEROS) {
+fn random_cost(seed: &mut u64, shape: &Shape) -> u32 {
+    let most = shape.largest;
+    if draw(seed, 8) < shape.zeros {
         return 0;
     }
     if once_in(seed, 8) {
@@ -125,7 +112,7 @@ fn random_cost(seed: &mut u64, shape: u32) -> u32 {
 }
 
 // Of eight leaving charges, in every shape two are the largest that there is and one is 0; the rest are below the shape's largest cost.
-fn random_charge(seed: &mut u64, shape: u32) -> u32 {
+fn random_charge(seed: &mut u64, shape: &Shape) -> u32 {
     let k = draw(seed, 8);
     if k < 2 {
         return 65535;
@@ -133,7 +120,7 @@ fn random_charge(seed: &mut u64, shape: u32) -> u32 {
     if k == 2 {
         return 0;
     }
-    draw(seed, of(shape, shapes::LARGEST))
+    draw(seed, shape.largest)
 }
 
 // The byte of a hold: 1 twice as often as 0, and now and then another; often another where some symbols are out of range too.
@@ -149,18 +136,18 @@ fn random_hold(seed: &mut u64, symbols: u32) -> u32 {
 }
 
 // A command of a kind, with one of so many symbols where it has one.
-fn make(s: &Station, seed: &mut u64, shape: u32, kind: Kind, symbols: u32) -> Order {
-    let m = pick(s, seed, kind[1], 0);
-    let n = pick(s, seed, kind[2], depth(s));
-    let v = pick(s, seed, kind[3], n);
+fn make(s: &Station, seed: &mut u64, shape: &Shape, kind: Kind, symbols: u32) -> Order {
+    let m = pick(s, seed, kind.1, 0);
+    let n = pick(s, seed, kind.2, depth(s));
+    let v = pick(s, seed, kind.3, n);
     let x = draw(seed, symbols);
     let b = random_hold(seed, symbols);
-    let c = if kind[0] == 0x1B {
+    let c = if kind.0 == 0x1B {
         random_charge(seed, shape)
     } else {
         random_cost(seed, shape)
     };
-    new_order(kind[0], m, n, v, x, c, b)
+    new_order(kind.0, m, n, v, x, c, b)
 }
 
 // The opcode of any edit but begin.
@@ -184,7 +171,7 @@ fn wrong_kind(seed: &mut u64) -> Kind {
         8 => RESTART_HELD,
         9 => LEAVE_ROOT,
         10 => LEAVE_FREE,
-        _ => [any_edit(seed), ANY_MACHINE, ANY, ANY],
+        _ => Kind(any_edit(seed), AnyMachine, Any, Any),
     }
 }
 
@@ -194,16 +181,10 @@ fn leave_kind(s: &Station) -> Kind {
 }
 
 // A kind for a random command; the numbers say how often each comes.
-fn any_kind(s: &Station, seed: &mut u64, shape: u32) -> Kind {
+fn any_kind(s: &Station, seed: &mut u64, shape: &Shape) -> Kind {
     let k = draw(seed, 84);
     match k {
-        0 => {
-            if of(shape, shapes::CHURN) == 1 {
-                BEGIN
-            } else {
-                ARROW
-            }
-        }
+        0 => { if shape.churn { BEGIN } else { ARROW } }
         1..=8 => ADD,
         9..=12 => REFINE,
         13..=14 => DEEPEN,
@@ -225,7 +206,7 @@ fn any_kind(s: &Station, seed: &mut u64, shape: u32) -> Kind {
 fn extend(
     s: &mut Station,
     seed: &mut u64,
-    shape: u32,
+    shape: &Shape,
     kind: Kind,
     stream: &mut Bytes,
     at: usize,
@@ -233,57 +214,53 @@ fn extend(
     if at >= 8184 {
         return at;
     }
-    let made = make(s, seed, shape, kind, of(shape, shapes::SYMBOLS));
+    let made = make(s, seed, shape, kind, shape.symbols);
     let end = write(stream, at, made);
-    take(s, stream, end, at);
+    let _ = take(s, stream, end, at);
     end
 }
 
-// Writes so many commands of a kind, as a column of the shape says.
+// Writes so many commands of a kind.
 fn repeat(
     s: &mut Station,
     seed: &mut u64,
-    shape: u32,
+    shape: &Shape,
     kind: Kind,
-    column: u32,
+    count: u32,
     stream: &mut Bytes,
     at: usize,
 ) -> usize {
-    let count = of(shape, column);
     let mut end = at;
-    let mut i = 0u32;
-    while i < count {
+    for _ in 0..count {
         end = extend(s, seed, shape, kind, stream, end);
-        i += 1;
     }
     end
 }
 
 // Writes the stream that builds a book of a shape, and gives its length. The ladder and the tree of a table are built on.
-fn build(s: &mut Station, seed: &mut u64, shape: u32, stream: &mut Bytes) -> usize {
-    let opened = of(shape, shapes::OPENING) != 0;
-    let a = if opened {
-        0
-    } else {
+fn build(s: &mut Station, seed: &mut u64, shape: &Shape, stream: &mut Bytes) -> usize {
+    let a = if shape.opening == Opening::Fresh {
         extend(s, seed, shape, BEGIN, stream, 0)
+    } else {
+        0
     };
-    let b = repeat(s, seed, shape, ADD, shapes::WIDE, stream, a);
-    let c = repeat(s, seed, shape, DEEPEN, shapes::DEEP, stream, b);
-    let d = repeat(s, seed, shape, REFINE, shapes::REFINED, stream, c);
-    let e = repeat(s, seed, shape, ADD, shapes::MORE, stream, d);
-    let f = repeat(s, seed, shape, ARROW, shapes::ARROWS, stream, e);
-    let g = repeat(s, seed, shape, SELF, shapes::SELVES, stream, f);
+    let b = repeat(s, seed, shape, ADD, shape.wide, stream, a);
+    let c = repeat(s, seed, shape, DEEPEN, shape.deep, stream, b);
+    let d = repeat(s, seed, shape, REFINE, shape.refined, stream, c);
+    let e = repeat(s, seed, shape, ADD, shape.more, stream, d);
+    let f = repeat(s, seed, shape, ARROW, shape.arrows, stream, e);
+    let g = repeat(s, seed, shape, SELF, shape.selves, stream, f);
     let h = if once_in(seed, 2) {
         g
     } else {
-        repeat(s, seed, shape, HOLD, shapes::HOLDS, stream, g)
+        repeat(s, seed, shape, HOLD, shape.holds, stream, g)
     };
     if once_in(seed, 2) {
         return h;
     }
     let kind = leave_kind(s);
     let i = extend(s, seed, shape, kind, stream, h);
-    repeat(s, seed, shape, LEAVE, shapes::HOLDS, stream, i)
+    repeat(s, seed, shape, LEAVE, shape.holds, stream, i)
 }
 
 // The length of a stream that is now and then cut short by a byte.
@@ -298,14 +275,11 @@ fn cut(seed: &mut u64, length: usize) -> usize {
 }
 
 // Writes a stream of random commands, and gives its length.
-fn mix(s: &mut Station, seed: &mut u64, shape: u32, stream: &mut Bytes) -> usize {
-    let count = of(shape, shapes::COMMANDS);
+fn mix(s: &mut Station, seed: &mut u64, shape: &Shape, stream: &mut Bytes) -> usize {
     let mut end = 0usize;
-    let mut i = 0u32;
-    while i < count {
+    for _ in 0..shape.commands {
         let kind = any_kind(s, seed, shape);
         end = extend(s, seed, shape, kind, stream, end);
-        i += 1;
     }
     cut(seed, end)
 }
@@ -313,7 +287,7 @@ fn mix(s: &mut Station, seed: &mut u64, shape: u32, stream: &mut Bytes) -> usize
 // Writes a stream of one command, which is most likely refused, and gives its length.
 pub fn single(s: &Station, seed: &mut u64, bytes: &mut Bytes) -> usize {
     let kind = wrong_kind(seed);
-    let made = make(s, seed, 0, kind, 18);
+    let made = make(s, seed, &DEEP_BOOKS, kind, 18);
     let end = write(bytes, 0, made);
     cut(seed, end)
 }
@@ -322,7 +296,7 @@ pub fn single(s: &Station, seed: &mut u64, bytes: &mut Bytes) -> usize {
 pub fn stream(
     s: &mut Station,
     seed: &mut u64,
-    shape: u32,
+    shape: &Shape,
     first: bool,
     bytes: &mut Bytes,
 ) -> usize {
@@ -337,11 +311,9 @@ pub fn stream(
 // its length.
 pub fn line(bytes: &mut Bytes) -> usize {
     let mut at = write(bytes, 0, new_order(0x10, 0, 0, 0, 0, 0, 0));
-    let mut n = 1u32;
-    while n < NODES {
+    for n in 1..NODES {
         let next = write(bytes, at, new_order(0x11, 0, n, 0, 0, 0, 0));
         at = write(bytes, next, new_order(0x14, 0, n - 1, n, 0, 65535, 0));
-        n += 1;
     }
     at
 }
@@ -350,11 +322,9 @@ pub fn line(bytes: &mut Bytes) -> usize {
 // m + 1, and the lowest has node 0 too, which leads to itself by command 1.
 fn nested(bytes: &mut Bytes) -> usize {
     let mut at = write(bytes, 0, new_order(0x10, 0, 1, 0, 0, 0, 0));
-    let mut m = 1u32;
-    while m < 8 {
+    for m in 1..8 {
         let next = write(bytes, at, new_order(0x12, m, m, m + 1, 0, 0, 0));
         at = write(bytes, next, new_order(0x1B, m, 0, 0, 0, 65535, 0));
-        m += 1;
     }
     let end = write(bytes, at, new_order(0x11, 7, 0, 0, 0, 0, 0));
     write(bytes, end, new_order(0x14, 0, 0, 0, 1, 0, 0))
@@ -375,11 +345,9 @@ fn root_arrow(n: u32) -> Order {
 // than 255 + 7 times the largest cost. Here the way from node 0 to 255 comes to every state, and leaves the seven machines twice.
 pub fn dearest(bytes: &mut Bytes) -> usize {
     let mut at = nested(bytes);
-    let mut n = 8u32;
-    while n < 255 {
+    for n in 8..255 {
         let next = write(bytes, at, new_order(0x11, 0, n + 1, 0, 0, 0, 0));
         at = write(bytes, next, root_arrow(n));
-        n += 1;
     }
     write(bytes, at, new_order(0x14, 0, 132, 1, 0, 65535, 0))
 }

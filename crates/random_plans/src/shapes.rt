@@ -1,78 +1,224 @@
-// The shapes of the random books: a row of numbers for each.
+// The shapes of the random books.
 
-// The columns of a row. 1: opened as the ladder, 2: from a random table; and built on that.
-pub const OPENING: u32 = 0;
-// The largest cost.
-pub const LARGEST: u32 = 1;
-// Of eight costs, so many are 0.
-pub const ZEROS: u32 = 2;
-// So many commands are in use.
-pub const SYMBOLS: u32 = 3;
-// So many books, each built by a stream and edited by so many others of so many commands.
-pub const BOOKS: u32 = 4;
+// How a book is opened: fresh, as the ladder, or from a random table.
+#[derive(Clone, Copy, PartialEq, Eq)]
+pub enum Opening {
+    Fresh,
+    Ladder,
+    Table,
+}
 
-pub const STREAMS: u32 = 5;
-
-pub const COMMANDS: u32 = 6;
-// About so many states are planned from after each stream; all where there are no more.
-pub const SOURCES: u32 = 7;
-// A book is built by so many nodes in the root,
-pub const WIDE: u32 = 8;
-// so many nodes refined at the lowest level,
-pub const DEEP: u32 = 9;
-// so many refined anywhere,
-pub const REFINED: u32 = 10;
-// so many nodes anywhere,
-pub const MORE: u32 = 11;
-// so many transitions,
-pub const ARROWS: u32 = 12;
-// so many from refined nodes to themselves,
-pub const SELVES: u32 = 13;
-// half of the time, so many holds, and, half of the time, as many leaving charges.
-pub const HOLDS: u32 = 14;
-// 1: begin is among the random commands.
-pub const CHURN: u32 = 15;
-
-type Row = [u32; 16];
+// What the books of a shape are like.
+#[derive(Clone, Copy)]
+pub struct Shape {
+    // A book is opened so, and built on that.
+    pub opening: Opening,
+    // The largest cost.
+    pub largest: u32,
+    // Of eight costs, so many are 0.
+    pub zeros: u32,
+    // So many commands are in use.
+    pub symbols: u32,
+    // So many books, each built by a stream and edited by so many others of so many commands.
+    pub books: u32,
+    pub streams: u32,
+    pub commands: u32,
+    // About so many states are planned from after each stream; all where there are no more.
+    pub sources: u32,
+    // A book is built by so many nodes in the root,
+    pub wide: u32,
+    // so many nodes refined at the lowest level,
+    pub deep: u32,
+    // so many refined anywhere,
+    pub refined: u32,
+    // so many nodes anywhere,
+    pub more: u32,
+    // so many transitions,
+    pub arrows: u32,
+    // so many from refined nodes to themselves,
+    pub selves: u32,
+    // half of the time, so many holds, and, half of the time, as many leaving charges.
+    pub holds: u32,
+    // Whether begin is among the random commands.
+    pub churn: bool,
+}
 
 // Eight levels.
-const DEEP_BOOKS: Row = [0, 65535, 2, 8, 10, 2, 14, 64, 1, 7, 0, 14, 80, 8, 8, 0];
+pub const DEEP_BOOKS: Shape = Shape {
+    opening: Opening::Fresh,
+    largest: 65535,
+    zeros: 2,
+    symbols: 8,
+    books: 10,
+    streams: 2,
+    commands: 14,
+    sources: 64,
+    wide: 1,
+    deep: 7,
+    refined: 0,
+    more: 14,
+    arrows: 80,
+    selves: 8,
+    holds: 8,
+    churn: false,
+};
+
 // Nearly all nodes in one machine.
-const WIDE_BOOKS: Row = [0, 65535, 0, 16, 4, 2, 12, 2, 253, 0, 0, 0, 700, 0, 24, 0];
+pub const WIDE_BOOKS: Shape = Shape {
+    opening: Opening::Fresh,
+    largest: 65535,
+    zeros: 0,
+    symbols: 16,
+    books: 4,
+    streams: 2,
+    commands: 12,
+    sources: 2,
+    wide: 253,
+    deep: 0,
+    refined: 0,
+    more: 0,
+    arrows: 700,
+    selves: 0,
+    holds: 24,
+    churn: false,
+};
+
 // Most costs 0.
-const ZERO_BOOKS: Row = [0, 3, 7, 8, 9, 2, 14, 64, 4, 3, 3, 12, 90, 6, 9, 0];
+pub const ZERO_BOOKS: Shape = Shape {
+    opening: Opening::Fresh,
+    largest: 3,
+    zeros: 7,
+    symbols: 8,
+    books: 9,
+    streams: 2,
+    commands: 14,
+    sources: 64,
+    wide: 4,
+    deep: 3,
+    refined: 3,
+    more: 12,
+    arrows: 90,
+    selves: 6,
+    holds: 9,
+    churn: false,
+};
+
 // Few transitions, so that much is not reached.
-const SPARSE_BOOKS: Row = [0, 99, 1, 16, 6, 2, 14, 64, 6, 2, 4, 14, 34, 3, 8, 0];
+pub const SPARSE_BOOKS: Shape = Shape {
+    opening: Opening::Fresh,
+    largest: 99,
+    zeros: 1,
+    symbols: 16,
+    books: 6,
+    streams: 2,
+    commands: 14,
+    sources: 64,
+    wide: 6,
+    deep: 2,
+    refined: 4,
+    more: 14,
+    arrows: 34,
+    selves: 3,
+    holds: 8,
+    churn: false,
+};
+
 // Many transitions of refined nodes to themselves.
-const SELF_BOOKS: Row = [0, 20, 2, 9, 10, 2, 14, 64, 3, 2, 6, 12, 66, 24, 9, 0];
+pub const SELF_BOOKS: Shape = Shape {
+    opening: Opening::Fresh,
+    largest: 20,
+    zeros: 2,
+    symbols: 9,
+    books: 10,
+    streams: 2,
+    commands: 14,
+    sources: 64,
+    wide: 3,
+    deep: 2,
+    refined: 6,
+    more: 12,
+    arrows: 66,
+    selves: 24,
+    holds: 9,
+    churn: false,
+};
+
 // The ladder.
-const LADDER_BOOKS: Row = [1, 65535, 1, 5, 6, 2, 20, 4, 0, 0, 0, 0, 20, 10, 18, 0];
+pub const LADDER_BOOKS: Shape = Shape {
+    opening: Opening::Ladder,
+    largest: 65535,
+    zeros: 1,
+    symbols: 5,
+    books: 6,
+    streams: 2,
+    commands: 20,
+    sources: 4,
+    wide: 0,
+    deep: 0,
+    refined: 0,
+    more: 0,
+    arrows: 20,
+    selves: 10,
+    holds: 18,
+    churn: false,
+};
+
 // Nearly all machines and nodes in use.
-const CROWDED_BOOKS: Row = [0, 500, 2, 16, 4, 2, 20, 3, 20, 5, 54, 160, 750, 40, 36, 0];
+pub const CROWDED_BOOKS: Shape = Shape {
+    opening: Opening::Fresh,
+    largest: 500,
+    zeros: 2,
+    symbols: 16,
+    books: 4,
+    streams: 2,
+    commands: 20,
+    sources: 3,
+    wide: 20,
+    deep: 5,
+    refined: 54,
+    more: 160,
+    arrows: 750,
+    selves: 40,
+    holds: 36,
+    churn: false,
+};
+
 // Small books, with many streams each.
-const EDITED_BOOKS: Row = [0, 50, 2, 8, 18, 8, 30, 40, 2, 1, 1, 4, 30, 3, 5, 1];
+pub const EDITED_BOOKS: Shape = Shape {
+    opening: Opening::Fresh,
+    largest: 50,
+    zeros: 2,
+    symbols: 8,
+    books: 18,
+    streams: 8,
+    commands: 30,
+    sources: 40,
+    wide: 2,
+    deep: 1,
+    refined: 1,
+    more: 4,
+    arrows: 30,
+    selves: 3,
+    holds: 5,
+    churn: true,
+};
+
 // Random tables: planned as they are, then edited.
-const TABLE_BOOKS: Row = [2, 99, 1, 5, 120, 1, 16, 4, 0, 0, 0, 0, 0, 0, 0, 0];
-
-const TABLE: [Row; 9] = [
-    DEEP_BOOKS,
-    WIDE_BOOKS,
-    ZERO_BOOKS,
-    SPARSE_BOOKS,
-    SELF_BOOKS,
-    LADDER_BOOKS,
-    CROWDED_BOOKS,
-    EDITED_BOOKS,
-    TABLE_BOOKS,
-];
-
-// What a shape has in a column.
-pub fn of(shape: u32, column: u32) -> u32 {
-    if shape >= 9 {
-        return 0;
-    }
-    if column >= 16 {
-        return 0;
-    }
-    TABLE[shape as usize][column as usize]
-}
+pub const TABLE_BOOKS: Shape = Shape {
+    opening: Opening::Table,
+    largest: 99,
+    zeros: 1,
+    symbols: 5,
+    books: 120,
+    streams: 1,
+    commands: 16,
+    sources: 4,
+    wide: 0,
+    deep: 0,
+    refined: 0,
+    more: 0,
+    arrows: 0,
+    selves: 0,
+    holds: 0,
+    churn: false,
+};

@@ -1,6 +1,4 @@
 // The test's own station: one tree in a list of words, laid out in a way of its own. Nothing here reads a word of a book or a sheet.
-ghost use Rattle.std.specs.Prelude.{◌≤◌};
-
 pub const NODES: u32 = 256;
 
 pub const MACHINES: u32 = 64;
@@ -13,7 +11,7 @@ pub const NONE: u32 = 65535;
 
 // The fields, with a word for each node or machine: owner and machine below of a node, start, holder and mark of a machine; the root at 0 of
 // its field; for each command a field of targets and one of costs; the hold of a node, 1 where it is held; and the leaving charge of a
-// machine.
+// machine. They are numbers, and no enum, since places are reckoned with them: TARGET + x.
 pub const OWNER: u32 = 0;
 
 pub const BELOW: u32 = 1;
@@ -103,13 +101,11 @@ pub fn above(s: &Station, n: u32) -> u32 {
 // Whether node k is n or stands below it.
 pub fn within(s: &Station, n: u32, k: u32) -> bool {
     let mut at = k;
-    let mut i = 0u32;
-    while i < LEVELS {
+    for _ in 0..LEVELS {
         if at == n {
             return true;
         }
         at = above(s, at);
-        i += 1;
     }
     false
 }
@@ -117,59 +113,32 @@ pub fn within(s: &Station, n: u32, k: u32) -> bool {
 // The level of a node, 1 in the root.
 pub fn level(s: &Station, n: u32) -> u32 {
     let mut at = n;
-    let mut k = 0u32;
-    while k < 99 {
+    for k in 0..99 {
         if at >= NODES {
             return k;
         }
         at = above(s, at);
-        k += 1;
     }
-    k
+    99
 }
 
 // The greatest level of a node.
 pub fn depth(s: &Station) -> u32 {
     let mut most = 1u32;
-    let mut n = 0u32;
-    while n < NODES {
-        let l = level(s, n);
-        if l > most {
-            most = l;
-        }
-        n += 1;
+    for n in 0..NODES {
+        most = most.max(level(s, n));
     }
     most
 }
 
 // The number of states.
 pub fn states(s: &Station) -> u32 {
-    let mut count = 0u32;
-    let mut n = 0u32;
-    while n < NODES {
-        count = count % NODES + one_if(is_state(s, n));
-        n += 1;
-    }
-    count
-}
-
-// 1 where it holds, else 0.
-pub fn one_if(b: bool) -> u32
-    ensures { result ≤ 1 }
-{
-    if b { 1 } else { 0 }
+    (0..NODES).filter(|n| is_state(s, *n)).count() as u32
 }
 
 // Whether a field has another number than 0.
 fn any_set(s: &Station, field: u32) -> bool {
-    let mut i = 0u32;
-    while i < NODES {
-        if get(s, field, i) != 0 {
-            return true;
-        }
-        i += 1;
-    }
-    false
+    (0..NODES).any(|i| get(s, field, i) != 0)
 }
 
 // Whether a machine is marked.
@@ -189,9 +158,7 @@ pub fn any_charged(s: &Station) -> bool {
 
 // Makes a field 0 at all numbers.
 pub fn zero(s: &mut Station, field: u32) {
-    let mut i = 0u32;
-    while i < NODES {
+    for i in 0..NODES {
         put(s, field, i, 0);
-        i += 1;
     }
 }

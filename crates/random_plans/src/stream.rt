@@ -1,20 +1,18 @@
 // The test's own reading of streams: each command is read from its bytes, judged on the own station and done there, up to the stream's end
 // or the first that is refused.
-ghost use Rattle.std.specs.Prelude.{◌≤◌, ◌<◌};
+ghost use Rattle.std.specs.Prelude.{◌<◌};
 
 use crate::edits;
 use crate::station::{
     BELOW, COMMANDS, LEVELS, MACHINES, NODES, NONE, OWNER, ROOT, START, Station, depth, get,
     is_held, is_start, level,
 };
+use refusals::Refusal;
 
 // A stream's bytes stand at the front; how many there are goes beside it.
 pub type Bytes = [u8; 8192];
 
-// More than any command has.
-const UNKNOWN: usize = 9;
-
-// A command with its operands; those that it does not have are 0.
+// A command with its operands; those that it does not have are 0. The opcode is the stream's byte, as unknown ones are made and judged too.
 #[derive(Clone, Copy)]
 pub struct Order {
     pub op: u32,
@@ -26,29 +24,22 @@ pub struct Order {
     pub hold: u32,
 }
 
-// What became of the next command: the bytes that it took, 1 where it holds a node, and 1 where it makes leaving a machine cost something;
-// or 0, and the refusal, 0 at the stream's end.
-#[derive(Drop)]
-pub struct Turn {
+// What a command took that was done: its bytes, and whether it holds a node, and whether it makes leaving a machine cost something.
+#[derive(Clone, Copy)]
+pub struct Taken {
     pub size: usize,
-    pub hold: u32,
-    pub charge: u32,
-    pub number: u32,
+    pub holds: bool,
+    pub charges: bool,
 }
 
-// Bytes taken, commands taken, those that hold a node, those that make leaving a machine cost something, and 0 or the refusal.
-#[derive(Drop)]
+// Bytes taken, commands taken, those that hold a node, those that make leaving a machine cost something, and the refusal, where one is refused.
+#[derive(Clone, Copy, Default)]
 pub struct Counts {
     pub bytes: usize,
     pub commands: usize,
     pub holds: usize,
     pub charges: usize,
-    pub number: u32,
-}
-
-// The byte as a number.
-pub fn wide(b: u8) -> u32 {
-    b as u32
+    pub refused: Option<Refusal>,
 }
 
 // The operand byte k of the command at a place.
@@ -62,7 +53,7 @@ fn one(stream: &Bytes, at: usize, k: usize) -> u32
         return 0;
     }
     let i = at + k;
-    if i < 8192 { wide(stream[i]) % 256 } else { 0 }
+    if i < 8192 { u32::from(stream[i]) } else { 0 }
 }
 
 // The two bytes from k on, high byte first.
@@ -73,17 +64,15 @@ fn two(stream: &Bytes, at: usize, k: usize) -> u32 {
     256 * one(stream, at, k) + one(stream, at, k + 1)
 }
 
-// How many bytes of operands follow an opcode.
-fn operands(op: u32) -> usize
-    ensures { result ≤ 9 }
-{
+// How many bytes of operands follow an opcode; nothing of an unknown one.
+fn operands(op: u32) -> Option<usize> {
     match op {
-        0x10 | 0x11 | 0x15 | 0x17 | 0x1A | 0x1B => 3,
-        0x12 => 5,
-        0x13 | 0x16 => 2,
-        0x14 => 7,
-        0x18 => 0,
-        _ => UNKNOWN,
+        0x10 | 0x11 | 0x15 | 0x17 | 0x1A | 0x1B => Some(3),
+        0x12 => Some(5),
+        0x13 | 0x16 => Some(2),
+        0x14 => Some(7),
+        0x18 => Some(0),
+        _ => None,
     }
 }
 
@@ -169,16 +158,16 @@ fn in_use(s: &Station, o: Order) -> bool {
 }
 
 // 9: refine of a node that is refined already; 10: remove of a start node; 11: a transition into another machine; 21: a held node made
-// the start node, or the start node held. 0 where nothing is so.
-fn misplaced(s: &Station, o: Order) -> u32 {
+// the start node, or the start node held.
+fn misplaced(s: &Station, o: Order) -> Option<Refusal> {
     let op = o.op;
     match op {
-        0x12 => number_if(get(s, BELOW, o.node) != NONE, 9),
-        0x13 => number_if(is_start(s, o.node), 10),
-        0x14 => number_if(get(s, OWNER, o.node) != get(s, OWNER, o.other), 11),
-        0x16 => number_if(is_held(s, o.node), 21),
-        0x1A => number_if(o.hold == 1 && is_start(s, o.node), 21),
-        _ => 0,
+        0x12 => (get(s, BELOW, o.node) != NONE).then_some(Refusal::AlreadyRefined),
+        0x13 => is_start(s, o.node).then_some(Refusal::IsStart),
+        0x14 => (get(s, OWNER, o.node) != get(s, OWNER, o.other)).then_some(Refusal::OtherMachine),
+        0x16 => is_held(s, o.node).then_some(Refusal::StartHeld),
+        0x1A => (o.hold == 1 && is_start(s, o.node)).then_some(Refusal::StartHeld),
+        _ => None,
     }
 }
 
@@ -192,27 +181,18 @@ fn too_deep(s: &Station, o: Order) -> bool {
     }
 }
 
-// The number where it is so, else 0.
-fn number_if(b: bool, number: u32) -> u32 {
-    if b { number } else { 0 }
-}
-
-// The number that an order is refused with on this station; 0 where it is taken.
-fn refusal(s: &Station, o: Order) -> u32 {
+// Why an order is refused on this station, where it is.
+fn refusal(s: &Station, o: Order) -> Option<Refusal> {
     if out_of_range(s, o) {
-        return 6;
+        return Some(Refusal::OutOfRange);
     }
     if missing(s, o) {
-        return 7;
+        return Some(Refusal::NotInUse);
     }
     if in_use(s, o) {
-        return 8;
+        return Some(Refusal::InUse);
     }
-    let number = misplaced(s, o);
-    if number != 0 {
-        return number;
-    }
-    number_if(too_deep(s, o), 12)
+    misplaced(s, o).or(too_deep(s, o).then_some(Refusal::TooDeep))
 }
 
 // Does an order that is not refused.
@@ -233,70 +213,52 @@ fn perform(s: &mut Station, o: Order) {
     }
 }
 
-// A turn that takes nothing, with the number of its refusal.
-fn stopped(number: u32) -> Turn {
-    Turn {
-        size: 0,
-        hold: 0,
-        charge: 0,
-        number,
-    }
-}
-
-// Does the command at a place of a stream of this length, or says why not.
-pub fn take(s: &mut Station, stream: &Bytes, length: usize, at: usize) -> Turn {
+// Does the command at a place of a stream of this length; nothing is taken at the stream's end.
+pub fn take(
+    s: &mut Station,
+    stream: &Bytes,
+    length: usize,
+    at: usize,
+) -> Result<Option<Taken>, Refusal> {
     if at >= length {
-        return stopped(0);
+        return Ok(None);
     }
-    let size = operands(one(stream, at, 0));
-    if size == UNKNOWN {
-        return stopped(5);
-    }
+    let size = operands(one(stream, at, 0)).ok_or(Refusal::UnknownOpcode)?;
     if length - at <= size {
-        return stopped(4);
+        return Err(Refusal::CutShort);
     }
     let order = decode(stream, at);
-    let number = refusal(s, order);
-    if number != 0 {
-        return stopped(number);
+    if let Some(refusal) = refusal(s, order) {
+        return Err(refusal);
     }
     perform(s, order);
-    Turn {
+    Ok(Some(Taken {
         size: size + 1,
-        hold: order.hold,
-        charge: number_if(order.op == 0x1B && order.cost != 0, 1),
-        number: 0,
-    }
+        holds: order.hold == 1,
+        charges: order.op == 0x1B && order.cost != 0,
+    }))
+}
+
+// Counts a command that was taken.
+fn count(counts: &mut Counts, taken: Taken) {
+    counts.commands = counts.commands.saturating_add(1);
+    counts.bytes = counts.bytes.saturating_add(taken.size);
+    counts.holds = counts.holds.saturating_add(usize::from(taken.holds));
+    counts.charges = counts.charges.saturating_add(usize::from(taken.charges));
 }
 
 // Does a stream's commands up to its end or the first that is refused.
 pub fn run(s: &mut Station, stream: &Bytes, length: usize) -> Counts {
-    let mut bytes = 0usize;
-    let mut commands = 0usize;
-    let mut holds = 0usize;
-    let mut charges = 0usize;
-    while commands < 8192 {
-        let turn = take(s, stream, length, bytes);
-        let size = turn.size;
-        if size == 0 {
-            return Counts {
-                bytes,
-                commands,
-                holds,
-                charges,
-                number: turn.number,
-            };
+    let mut counts = Counts::default();
+    for _ in 0..8192 {
+        match take(s, stream, length, counts.bytes) {
+            Ok(Some(taken)) => count(&mut counts, taken),
+            Ok(None) => return counts,
+            Err(refusal) => {
+                counts.refused = Some(refusal);
+                return counts;
+            }
         }
-        bytes += size % 16;
-        commands += 1;
-        holds = holds % 8192 + (turn.hold % 2) as usize;
-        charges = charges % 8192 + (turn.charge % 2) as usize;
     }
-    Counts {
-        bytes,
-        commands,
-        holds,
-        charges,
-        number: 0,
-    }
+    counts
 }

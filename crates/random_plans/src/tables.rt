@@ -1,22 +1,25 @@
 // Random tables (document 02, W-208), whether they open, by counts over their rows, and the test's own station of those that do.
-use crate::chance::{FREE_MACHINE, HIGH, LOWEST, USED, USED_MACHINE, draw, once_in, pick};
+use crate::chance::{Wanted, pick};
 use crate::edits;
 use crate::station::{
     BELOW, HOLDER, LEVELS, MACHINES, NONE, OWNER, ROOT, START, Station, WORDS, depth, get,
-    is_start, one_if, put,
+    is_start, put,
 };
+use trying::{draw, once_in};
 
 // The most rows, and their words: owner, machine below and start of each.
 pub const ROWS: u32 = 189;
 
 pub type Rows = [u32; 567];
 
-// What is counted of a table: rows that are wrong by themselves, machines with wrong starts or holders, and roots.
-const WRONG_ROWS: u32 = 0;
-
-const WRONG_MACHINES: u32 = 1;
-
-const ROOTS: u32 = 2;
+// Why a table does not open: a row by itself, the starts or holders of a machine, the roots, or the levels.
+#[derive(Clone, Copy)]
+pub enum Fault {
+    Row,
+    Starts,
+    Roots,
+    Levels,
+}
 
 // The number at place k of row n; "none" outside.
 fn cell(rows: &Rows, n: u32, k: u32) -> u32 {
@@ -46,24 +49,26 @@ fn grow(s: &mut Station, seed: &mut u64, limit: u32) {
         return;
     }
     if once_in(seed, 3) {
-        let m = pick(s, seed, FREE_MACHINE, 0);
-        let kind = if once_in(seed, 2) { LOWEST } else { HIGH };
+        let m = pick(s, seed, Wanted::FreeMachine, 0);
+        let kind = if once_in(seed, 2) {
+            Wanted::Lowest
+        } else {
+            Wanted::High
+        };
         let p = pick(s, seed, kind, depth(s));
         edits::refine(s, p, m, n);
     } else {
-        let m = pick(s, seed, USED_MACHINE, 0);
+        let m = pick(s, seed, Wanted::UsedMachine, 0);
         edits::add(s, m, n);
     }
 }
 
 // Writes the rows of a tree.
 fn write_rows(s: &Station, rows: &mut Rows) {
-    let mut n = 0u32;
-    while n < ROWS {
+    for n in 0..ROWS {
         set_cell(rows, n, 0, get(s, OWNER, n));
         set_cell(rows, n, 1, get(s, BELOW, n));
-        set_cell(rows, n, 2, one_if(is_start(s, n)));
-        n += 1;
+        set_cell(rows, n, 2, u32::from(is_start(s, n)));
     }
 }
 
@@ -76,8 +81,8 @@ fn any_number(s: &Station, seed: &mut u64, k: u32) -> u32 {
     match kind {
         0 | 1 => NONE,
         2 => 64,
-        3 => pick(s, seed, FREE_MACHINE, 0),
-        _ => pick(s, seed, USED_MACHINE, 0),
+        3 => pick(s, seed, Wanted::FreeMachine, 0),
+        _ => pick(s, seed, Wanted::UsedMachine, 0),
     }
 }
 
@@ -86,7 +91,7 @@ fn damage(s: &Station, seed: &mut u64, rows: &mut Rows) {
     let n = if once_in(seed, 4) {
         draw(seed, ROWS)
     } else {
-        pick(s, seed, USED, 0)
+        pick(s, seed, Wanted::Used, 0)
     };
     let k = draw(seed, 3);
     let w = any_number(s, seed, k);
@@ -101,10 +106,8 @@ pub fn make(seed: &mut u64, rows: &mut Rows) -> u32 {
     let m = draw(seed, MACHINES);
     let n = draw(seed, limit);
     edits::begin(&mut s, m, n);
-    let mut i = 0u32;
-    while i < nodes {
+    for _ in 0..nodes {
         grow(&mut s, seed, limit);
-        i += 1;
     }
     write_rows(&s, rows);
     if once_in(seed, 2) {
@@ -120,16 +123,10 @@ pub fn make(seed: &mut u64, rows: &mut Rows) -> u32 {
 }
 
 // How many of the first rows have m at place k, and a start of at least so much.
-fn rows_with(rows: &Rows, count: u32, k: u32, m: u32, start: u32) -> u32 {
-    let mut found = 0u32;
-    let mut n = 0u32;
-    while n < count {
-        if cell(rows, n, k) == m && cell(rows, n, 2) >= start {
-            found = found % 1000 + 1;
-        }
-        n += 1;
-    }
-    found
+fn rows_with(rows: &Rows, count: u32, k: u32, m: u32, start: u32) -> usize {
+    (0..count)
+        .filter(|n| cell(rows, *n, k) == m && cell(rows, *n, 2) >= start)
+        .count()
 }
 
 // Whether a row is wrong by itself.
@@ -157,35 +154,8 @@ fn is_root(rows: &Rows, count: u32, m: u32) -> bool {
     rows_with(rows, count, 0, m, 0) != 0 && rows_with(rows, count, 1, m, 0) == 0
 }
 
-// Whether the row or the machine of a number is one of those that are counted.
-fn counts(rows: &Rows, count: u32, what: u32, i: u32) -> bool {
-    if what == WRONG_ROWS {
-        return i < count && wrong_row(rows, i);
-    }
-    if i >= MACHINES {
-        return false;
-    }
-    if what == ROOTS {
-        return is_root(rows, count, i);
-    }
-    wrong_machine(rows, count, i)
-}
-
-// How many rows or machines of a table are counted.
-fn counted(rows: &Rows, count: u32, what: u32) -> u32 {
-    let mut found = 0u32;
-    let mut i = 0u32;
-    while i < ROWS {
-        if counts(rows, count, what, i) {
-            found = found % 1000 + 1;
-        }
-        i += 1;
-    }
-    found
-}
-
 // Gives the own station the node of a row, and transitions to and from the node of its machine before it.
-fn fill_row(s: &mut Station, last: &mut [u32; 64], rows: &Rows, n: u32) {
+fn fill_row(s: &mut Station, last: &mut [Option<u32>; 64], rows: &Rows, n: u32) {
     let m = cell(rows, n, 0);
     if m >= MACHINES {
         return;
@@ -198,8 +168,8 @@ fn fill_row(s: &mut Station, last: &mut [u32; 64], rows: &Rows, n: u32) {
         put(s, START, m, n);
     }
     let before = last[m as usize];
-    last[m as usize] = n;
-    if before != NONE {
+    last[m as usize] = Some(n);
+    if let Some(before) = before {
         edits::set_transition(s, n, 0, before, 1);
         edits::set_transition(s, before, 1, n, 1);
     }
@@ -208,36 +178,33 @@ fn fill_row(s: &mut Station, last: &mut [u32; 64], rows: &Rows, n: u32) {
 // Makes the own station of a table.
 fn fill(s: &mut Station, rows: &Rows, count: u32) {
     edits::empty(s);
-    let mut last = [NONE; 64];
-    let mut n = 0u32;
-    while n < ROWS {
-        if counts(rows, count, ROOTS, n) {
-            put(s, ROOT, 0, n);
+    let mut last = [None; 64];
+    for m in 0..MACHINES {
+        if is_root(rows, count, m) {
+            put(s, ROOT, 0, m);
         }
-        if n < count {
-            fill_row(s, &mut last, rows, n);
-        }
-        n += 1;
+    }
+    for n in 0..count {
+        fill_row(s, &mut last, rows, n);
     }
 }
 
-// Makes the own station of a table that opens, and gives 0; else it stays, and the answer says why: 1 a row, 2 starts or holders, 3 the roots,
-// 4 the levels.
-pub fn open(s: &mut Station, rows: &Rows, count: u32) -> u32 {
-    if counted(rows, count, WRONG_ROWS) != 0 {
-        return 1;
+// Makes the own station of a table that opens; else it stays, and the answer says why.
+pub fn open(s: &mut Station, rows: &Rows, count: u32) -> Result<(), Fault> {
+    if (0..count).any(|n| wrong_row(rows, n)) {
+        return Err(Fault::Row);
     }
-    if counted(rows, count, WRONG_MACHINES) != 0 {
-        return 2;
+    if (0..MACHINES).any(|m| wrong_machine(rows, count, m)) {
+        return Err(Fault::Starts);
     }
-    if counted(rows, count, ROOTS) != 1 {
-        return 3;
+    if (0..MACHINES).filter(|m| is_root(rows, count, *m)).count() != 1 {
+        return Err(Fault::Roots);
     }
     let mut next = [NONE; WORDS];
     fill(&mut next, rows, count);
     if depth(&next) > LEVELS {
-        return 4;
+        return Err(Fault::Levels);
     }
     *s = next;
-    0
+    Ok(())
 }

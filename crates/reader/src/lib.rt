@@ -5,7 +5,8 @@
 ghost use Rattle.std.specs.Prelude.{◌≡◌};
 ghost use Rattle.reading.specs.Meaning.{NextRead};
 
-use reading::Read;
+use reading::Taken;
+use refusals::Refusal;
 
 // A stream's bytes, and how many of them are taken.
 #[derive(Drop)]
@@ -22,7 +23,7 @@ pub fn new<'a>(bytes: &'a [u8], taken: usize) -> Reader<'a>
 }
 
 // The next command of a reading.
-pub fn next<'a>(r: Reader<'a>) -> Read
+pub fn next<'a>(r: Reader<'a>) -> Result<Option<Taken>, Refusal>
     ensures { NextRead r.entry.bytes.now r.entry.taken result }
 {
     reading::command_at(r.bytes, r.taken)
@@ -30,7 +31,7 @@ pub fn next<'a>(r: Reader<'a>) -> Read
 
 // The next command of a stream of which so many bytes are taken, as it is written: its end, a command and its size, or the refusal
 // 5 (unknown opcode) or 4 (cut short).
-pub fn command_at(stream: &[u8], taken: usize) -> Read
+pub fn command_at(stream: &[u8], taken: usize) -> Result<Option<Taken>, Refusal>
     ensures { NextRead stream.now taken result }
 {
     next(new(stream, taken))

@@ -1,29 +1,14 @@
 -- What the answers of this crate's functions mean, by the definitions of a stream.
-use Rattle.std.specs.Prelude.{◌≡◌, List, ℕ, ◌+◌, ◌<◌, length, drop}
-use Rattle.std.proofs.Math.Option.{Option, none, some}
+use Rattle.std.specs.Prelude.{◌≡◌, List, ℕ, ◌+◌, ◌<◌, length, drop, Option, Some, None, Result, Ok, Err}
+use Rattle.std.proofs.Math.Option as maybe
 use Rattle.definitions.specs.Stream.{begin, add, refine, remove, arrow, clear, start, crown, hold, leave, edit, refresh}
 use Rattle.definitions.specs.Stream.{Next, ended, taken, refused, operand_length, read_next}
 use Rattle.definitions.specs.Stream.{Command as Meant}
 use Rattle.reading.specs.declared.Command.{Command}
 use Rattle.reading.specs.declared.Command.TheVariants.{Begin, Add, Refine, Remove, Arrow, Clear, Start, Crown, Refresh, Hold, Leave}
-use Rattle.reading.specs.declared.Place.{Place}
-use Rattle.reading.specs.declared.Place.TheVariants.{At, Nowhere}
-use Rattle.reading.specs.declared.Operands.{Operands}
-use Rattle.reading.specs.declared.Operands.TheVariants.{Bytes, Unknown}
-use Rattle.reading.specs.declared.Decoded.{Decoded}
-use Rattle.reading.specs.declared.Decoded.TheVariants.{Known}
-use Rattle.reading.specs.declared.Read.{Read}
-use Rattle.reading.specs.declared.Read.TheVariants.{Ended, Taken, Refused}
-
--- the place of an opcode, if it has one
-abbrev pub place_of : Place → Option ℕ
-place_of (At i) = some i
-place_of Nowhere = none
-
--- the bytes of operands that an opcode has
-abbrev pub operands_of : Operands → Option ℕ
-operands_of (Bytes k) = some k
-operands_of Unknown = none
+use Rattle.reading.specs.declared.Taken.{Taken}
+use Rattle.refusals.specs.Meaning.{number_of}
+use Rattle.refusals.specs.declared.Refusal.{Refusal}
 
 -- a command of a stream
 abbrev pub command_of : Command → Meant
@@ -40,15 +25,15 @@ command_of (Hold n b) = edit (hold n b)
 command_of (Leave m c) = edit (leave m c)
 
 -- the command of an opcode, if it has one
-abbrev pub decoded_of : Decoded → Option Meant
-decoded_of (Known c) = some (command_of c)
-decoded_of Decoded.Unknown = none
+abbrev pub decoded_of : Option Command → maybe.Option Meant
+decoded_of (Some c) = maybe.some (command_of c)
+decoded_of None = maybe.none
 
--- what stands next in a stream
-abbrev pub read_of : Read → Next
-read_of Ended = ended
-read_of (Taken c size) = taken (command_of c) size
-read_of (Refused k) = refused k
+-- what stands next in a stream: nothing, a command and how many bytes it takes, or a refusal
+abbrev pub read_of : Result (Option Taken) Refusal → Next
+read_of (Ok None) = ended
+read_of (Ok (Some t)) = taken (command_of t.command) t.size
+read_of (Err r) = refused (number_of r)
 
 -- every operand is a number of one byte, or of two
 abbrev pub Narrow : Command → Type 0
@@ -64,20 +49,20 @@ Narrow Refresh = Unit
 Narrow (Hold n b) = (n < 65536) × (b < 256)
 Narrow (Leave m c) = (m < 256) × (c < 65536)
 
-abbrev pub NarrowDecoded : Decoded → Type 0
-NarrowDecoded (Known c) = Narrow c
-NarrowDecoded Decoded.Unknown = Unit
+abbrev pub NarrowDecoded : Option Command → Type 0
+NarrowDecoded (Some c) = Narrow c
+NarrowDecoded None = Unit
 
-abbrev pub NarrowRead : Read → Type 0
-NarrowRead Ended = Unit
-NarrowRead (Taken c size) = Narrow c
-NarrowRead (Refused k) = Unit
+abbrev pub NarrowRead : Result (Option Taken) Refusal → Type 0
+NarrowRead (Ok None) = Unit
+NarrowRead (Ok (Some t)) = Narrow t.command
+NarrowRead (Err r) = Unit
 
 -- behind the opcode, at a place of the bytes, the operands are all there that it has
 abbrev pub Whole : List ℕ → ℕ → ℕ → Type 0
-Whole bytes at op = (operands : ℕ) → operand_length op ≡ some operands → at + operands < length bytes
+Whole bytes at op = (operands : ℕ) → operand_length op ≡ maybe.some operands → at + operands < length bytes
 
 -- r is what stands next in the bytes behind those that are taken
-pub record NextRead (bytes : List ℕ) (taken : ℕ) (r : Read) : Type 0 where
+pub record NextRead (bytes : List ℕ) (taken : ℕ) (r : Result (Option Taken) Refusal) : Type 0 where
   pub next : read_of r ≡ read_next (drop taken bytes)
   pub narrow : NarrowRead r

@@ -4,10 +4,13 @@
 ghost use Rattle.std.specs.Prelude.{◌≡◌, ◌+◌, ◌<◌, length, drop};
 ghost use Rattle.definitions.specs.Stream.{operand_length, byte_at, pair_at, decode};
 ghost use Rattle.reading.specs.Column.{place, entry};
-ghost use Rattle.reading.specs.Meaning.{place_of, operands_of, decoded_of, NarrowDecoded, Whole, NextRead};
+ghost use Rattle.refusals.specs.Meaning.{value_of};
+ghost use Rattle.reading.specs.Meaning.{decoded_of, NarrowDecoded, Whole, NextRead};
+
+use refusals::Refusal;
 
 // The eleven commands of a stream, with their operands.
-#[derive(Clone, Copy)]
+#[derive(Clone, Copy, Debug, PartialEq, Eq)]
 pub enum Command {
     Begin {
         machine: u32,
@@ -69,33 +72,11 @@ const LENGTHS: [u8; 11] = [
     3, // 0x1B leave: machine, cost
 ];
 
-// The place of an opcode in a column, which may end before it; or that the opcode has none.
-#[derive(Drop)]
-enum Place {
-    At(usize),
-    Nowhere,
-}
-
-// How many bytes of operands follow an opcode; or that it is the opcode of no command.
-#[derive(Drop)]
-pub enum Operands {
-    Bytes(usize),
-    Unknown,
-}
-
-// The command of an opcode; or that it is the opcode of none.
-#[derive(Drop)]
-pub enum Decoded {
-    Known(Command),
-    Unknown,
-}
-
-// What stands next in a stream: nothing, a command and how many bytes it takes, or a refusal's number.
-#[derive(Drop)]
-pub enum Read {
-    Ended,
-    Taken { command: Command, size: usize },
-    Refused(u32),
+// A command that stands next in a stream, and how many bytes it takes.
+#[derive(Clone, Copy, Debug, PartialEq, Eq)]
+pub struct Taken {
+    pub command: Command,
+    pub size: usize,
 }
 
 // The byte at place i of a stream.
@@ -125,109 +106,100 @@ pub fn operand_pair(stream: &[u8], at: usize, k: usize) -> u32
     high * 256 + low
 }
 
-// The place of an opcode: 0x10 has the first. 0x19, the session's plan, is no command of a stream and has none.
-fn locate(op: u32) -> Place
-    ensures { place_of result ≡ place op }
+// The place of an opcode in a column, which may end before it: 0x10 has the first. 0x19, the session's plan, is no command of a stream and has
+// none.
+fn locate(op: u32) -> Option<usize>
+    ensures { value_of result ≡ place op }
 {
     match op {
-        0x10..=0x18 => Place::At((op - 0x10) as usize),
-        0x1A..=0xFFFFFFFF => Place::At((op - 0x11) as usize),
-        0x00..=0x0F | 0x19 => Place::Nowhere,
+        0x10..=0x18 => Some((op - 0x10) as usize),
+        0x1A..=0xFFFFFFFF => Some((op - 0x11) as usize),
+        0x00..=0x0F | 0x19 => None,
     }
 }
 
 // The number that a column has for an opcode. An opcode that has no place in the column is unknown.
-fn look_up(column: &[u8], op: u32) -> Operands
-    ensures { operands_of result ≡ entry column.now op }
+fn look_up(column: &[u8], op: u32) -> Option<usize>
+    ensures { value_of result ≡ entry column.now op }
 {
-    let Place::At(i) = locate(op) else {
-        return Operands::Unknown;
-    };
-    if column.len() <= i {
-        return Operands::Unknown; // behind the column's end
-    }
-    Operands::Bytes(column[i] as usize)
+    let size = *column.get(locate(op)?)?; // none behind the column's end
+    Some(size as usize)
 }
 
-// How many bytes of operands an opcode has.
-fn operand_length(op: u32) -> Operands
-    ensures { operands_of result ≡ operand_length op }
+// How many bytes of operands follow an opcode, where it is that of a command.
+fn operand_length(op: u32) -> Option<usize>
+    ensures { value_of result ≡ operand_length op }
 {
     look_up(&LENGTHS, op)
 }
 
-// The command whose opcode, at a place of a stream, is op. Where the opcode is known its operands are all there.
-fn decode(stream: &[u8], at: usize, op: u32) -> Decoded
+// The command whose opcode, at a place of a stream, is op, if there is one. Where the opcode is known its operands are all there.
+fn decode(stream: &[u8], at: usize, op: u32) -> Option<Command>
     requires { Whole stream.now at op }
     ensures { (decoded_of result ≡ decode op (drop (at + 1) stream.now)) × NarrowDecoded result }
 {
     match op {
-        0x10 => Decoded::Known(Command::Begin {
+        0x10 => Some(Command::Begin {
             machine: operand(stream, at, 0),
             node: operand_pair(stream, at, 1),
         }),
-        0x11 => Decoded::Known(Command::Add {
+        0x11 => Some(Command::Add {
             machine: operand(stream, at, 0),
             node: operand_pair(stream, at, 1),
         }),
-        0x12 => Decoded::Known(Command::Refine {
+        0x12 => Some(Command::Refine {
             node: operand_pair(stream, at, 0),
             machine: operand(stream, at, 2),
             first: operand_pair(stream, at, 3),
         }),
-        0x13 => Decoded::Known(Command::Remove {
+        0x13 => Some(Command::Remove {
             node: operand_pair(stream, at, 0),
         }),
-        0x14 => Decoded::Known(Command::Arrow {
+        0x14 => Some(Command::Arrow {
             node: operand_pair(stream, at, 0),
             command: operand(stream, at, 2),
             target: operand_pair(stream, at, 3),
             cost: operand_pair(stream, at, 5),
         }),
-        0x15 => Decoded::Known(Command::Clear {
+        0x15 => Some(Command::Clear {
             node: operand_pair(stream, at, 0),
             command: operand(stream, at, 2),
         }),
-        0x16 => Decoded::Known(Command::Start {
+        0x16 => Some(Command::Start {
             node: operand_pair(stream, at, 0),
         }),
-        0x17 => Decoded::Known(Command::Crown {
+        0x17 => Some(Command::Crown {
             machine: operand(stream, at, 0),
             node: operand_pair(stream, at, 1),
         }),
-        0x18 => Decoded::Known(Command::Refresh),
-        0x1A => Decoded::Known(Command::Hold {
+        0x18 => Some(Command::Refresh),
+        0x1A => Some(Command::Hold {
             node: operand_pair(stream, at, 0),
             hold: operand(stream, at, 2),
         }),
-        0x1B => Decoded::Known(Command::Leave {
+        0x1B => Some(Command::Leave {
             machine: operand(stream, at, 0),
             cost: operand_pair(stream, at, 1),
         }),
-        0x00..=0x0F | 0x19 | 0x1C..=0xFFFFFFFF => Decoded::Unknown,
+        0x00..=0x0F | 0x19 | 0x1C..=0xFFFFFFFF => None,
     }
 }
 
 // The next command of a stream of which so many bytes are taken, as it is written: its end, a command and its size, or the refusal
 // 5 (unknown opcode) or 4 (cut short).
-pub fn command_at(stream: &[u8], taken: usize) -> Read
+pub fn command_at(stream: &[u8], taken: usize) -> Result<Option<Taken>, Refusal>
     ensures { NextRead stream.now taken result }
 {
     if stream.len() <= taken {
-        return Read::Ended;
+        return Ok(None);
     }
     let op = byte(stream, taken);
-    let Operands::Bytes(size) = operand_length(op) else {
-        return Read::Refused(5); // an unknown opcode
-    };
+    let size = operand_length(op).ok_or(Refusal::UnknownOpcode)?;
     if stream.len() - taken <= size {
-        return Read::Refused(4);
+        return Err(Refusal::CutShort);
     }
-    let Decoded::Known(command) = decode(stream, taken, op) else {
-        return Read::Refused(5); // never: an opcode that has operands has a command
-    };
-    Read::Taken {
-        command,
-        size: 1 + size,
-    }
+    // An opcode that has operands has a command, so this refuses none.
+    let command = decode(stream, taken, op).ok_or(Refusal::UnknownOpcode)?;
+    let size = 1 + size;
+    Ok(Some(Taken { command, size }))
 }

@@ -17,7 +17,7 @@ use Rattle.definitions.proofs.Reaching.{along_names, run_on, Reaches}
 use Rattle.definitions.proofs.Local.{Relaxed, Attained, move_parts}
 use Rattle.definitions.proofs.Alone.{MovesRelaxed}
 use Rattle.definitions.proofs.LocalTruth.{move_owned}
-use Rattle.search.specs.Search.{Certificate, largest_move, unreached, reached}
+use Rattle.search.specs.Search.{Certificate, largest_move, unreached}
 use Rattle.search.proofs.Reading.{reached_is, reached_some, reached_none, number_is, number_none}
 use Rattle.refreshing.specs.Parts.{Members, placed, NodesFilled, Way, ExitFilled}
 

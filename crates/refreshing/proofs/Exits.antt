@@ -6,19 +6,16 @@ use mathlib.Core.Option.{Option, none, some}
 use mathlib.Core.List.{List}
 use Prim.Native.Nat.{ℕ, ◌+◌, ◌≤◌, ◌<◌}
 use native.Mathlib.Omega.{arith}
-use lib.ListN.{length}
-use Rattle.definitions.specs.Limits.{commands, absent, blank, sheet_length, largest_plan_cost}
+use Rattle.definitions.specs.Limits.{commands, blank, largest_plan_cost}
 use Rattle.definitions.specs.Tree.{Tree, Sound}
 use Rattle.definitions.specs.Step.{counting}
 use Rattle.definitions.specs.Book.{number, transition_word}
-use Rattle.definitions.specs.Sheet.{Rows, cost_of, rows_of}
+use Rattle.definitions.specs.Sheet.{Rows, rows_of}
 use Rattle.definitions.specs.Truth.{node_exit}
 use Rattle.definitions.proofs.Options.{none_some, some_same, present, equal_or_not, put_same, put_other}
 use Rattle.book.proofs.Counts.{no_counting, some_counting}
 use Rattle.search.specs.Search.{unreached, reached}
 use Rattle.search.specs.Parts.{at}
-use Rattle.sheet.specs.Fields.{Leaves, with_exit, with_last}
-use Rattle.sheet.proofs.Stores.{leaves_then}
 use Rattle.search.proofs.Reading.{reached_is, reached_some}
 use Rattle.refreshing.specs.Parts.{ExitsKept, CostFits, distances, Way, LeavesAt, WayCosts, Cheapest}
 use Rattle.refreshing.specs.Parts.{IsNear, NearOut, ExitWritten, ExitsWritten}
@@ -29,15 +26,6 @@ use Rattle.refreshing.proofs.Row.{kept_exit, cheapest_kept}
 -- a node that is reached is near
 pub near_there : {d : ℕ} → IsNear d → (d ≡ unreached → ⊥) → d ≤ largest_plan_cost
 near_there {d} far there = far.near d (reached_is d there)
-
--- a node that is never left
-pub leave_never : (d w : ℕ) {o : Option ℕ} → o ≡ none → LeavesAt o d w unreached
-leave_never d w none_there = record { never = λ e. refl; costs = λ e there. absurd (none_some none_there there) }
-
--- a node that is left
-pub leave_costs : {o : Option ℕ} {d e w c : ℕ} → o ≡ some e → c ≡ d + e + w → c < unreached → LeavesAt o d w c
-leave_costs exit sum small =
-    record { never = λ off. absurd (none_some off exit); costs = λ e there. (omega (arith, some_same exit there), small) }
 
 module _ {o : Option ℕ} {d w c : ℕ} (left : LeavesAt o d w c) where
   -- the word for none says that it is never left
@@ -93,16 +81,6 @@ module _ {t : Tree} (r : Rows) (n x d : ℕ) where
 -- ---- the cheapest way out
 
 module _ {t : Tree} {r : Rows} {members : ℕ → ℕ} {distance : ℕ → Option ℕ} {x : ℕ} where
-  -- from no node
-  pub cheapest_first : Cheapest t r members distance x 0 unreached absent
-  cheapest_first =
-      record {
-        least = λ i d small way. absurd (omega arith);
-        attained = λ less. absurd (omega arith);
-        top = omega arith;
-        never = λ e. refl;
-      }
-
   module _ {j cost node c : ℕ} (best : Cheapest t r members distance x j cost node) (costs : WayCosts t r (members j) (distance j) x c) where
     -- from one node more, which is cheaper
     pub cheapest_better : c < cost → Cheapest t r members distance x (j + 1) c (members j)
@@ -162,23 +140,6 @@ exit_fits {cost = cost} {members = members} {dist = dist} range out best =
           );
     }
 
--- an exit is written, word by word
-pub exit_written : {t : Tree} {m k x least node : ℕ} (u : ℕ) {members dist a b c : List ℕ}
-    → Cheapest t (rows_of a) (at members) (distances dist) x k least node → Leaves a b (with_exit (rows_of a) m x (cost_of u))
-    → cost_of u ≡ reached least → Leaves b c (with_last (rows_of b) m x (number node)) → ExitWritten t m k x members dist a c
-exit_written {m = m} {x = x} {least = least} {node = node} u {a = a} best first e second =
-    let both = leaves_then (λ r. with_last r m x (number node)) first second in
-    record {
-      least = least;
-      node = node;
-      cheapest = best;
-      leaves = record {
-        length = both.length;
-        marks = both.marks;
-        rows = both.rows ∙ ap (λ (o : Option ℕ). with_last (with_exit (rows_of a) m x o) m x (number node)) e;
-      };
-    }
-
 -- what is near stays so
 pub near_kept : {t : Tree} → Sound t → {r q : Rows} {m k : ℕ} {members dist : List ℕ} → ExitsKept m r q → NearOut t r m k members dist
     → NearOut t q m k members dist
@@ -191,20 +152,6 @@ near_kept sound {members = members} kept out =
     }
 
 module _ {t : Tree} {m k : ℕ} {members dist : List ℕ} where
-  -- nothing yet
-  pub exits_none : {sheet : List ℕ} → length sheet ≡ sheet_length → ExitsWritten t m k 0 members dist sheet sheet
-  exits_none long =
-      record {
-        leaves = record { length = long; marks = λ marks. marks; rows = refl };
-        stale = λ p. refl;
-        cost = λ n. refl;
-        before_kept = λ n. refl;
-        by_kept = λ n. refl;
-        exit = record { same = λ p x other. refl };
-        last = λ p x other. refl;
-        each = λ x small. absurd (omega arith);
-      }
-
   -- one command more
   module _ (sound : Sound t) {j : ℕ} {sheet mid after : List ℕ} (range : j < commands) (out : NearOut t (rows_of sheet) m k members dist)
       (done : ExitsWritten t m k j members dist sheet mid) (next : ExitWritten t m k j members dist mid after) where
@@ -283,10 +230,3 @@ module _ {t : Tree} {m k : ℕ} {members dist : List ℕ} where
               })
               (equal_or_not x j);
         }
-
--- all commands
-pub exits_all : {t : Tree} {m k j : ℕ} {members dist sheet after : List ℕ} → ExitsWritten t m k j members dist sheet after → j ≤ commands
-    → commands ≤ j → ExitsWritten t m k commands members dist sheet after
-exits_all {j = j} done low high =
-    let same : j ≡ commands = omega arith in
-    rw same at done

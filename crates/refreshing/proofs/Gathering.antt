@@ -3,7 +3,7 @@ use mathlib.Core.Path.{◌≡◌, sym, ◌∙◌, ap}
 use mathlib.Core.Logic.{⊎_elim}
 use mathlib.Core.Option.{Option, some}
 use mathlib.Core.List.{List}
-use Prim.Native.Nat.{ℕ, ◌+◌, ◌≤◌, ◌<◌}
+use Prim.Native.Nat.{ℕ, ◌+◌, ◌<◌}
 use native.Mathlib.Omega.{arith}
 use lib.ListN.{length, set, length-set}
 use lib.Seq.{get_or-set_same, get_or-set_other}
@@ -35,20 +35,6 @@ pub is_owned : {o : Option ℕ} {m w : ℕ} → w ≡ word o → w ≡ m → m <
 is_owned {o} e same small = present_word o e (omega arith) ∙ ap {B = Option ℕ} some same
 
 -- ---- the places so far
-
--- none yet
-pub gathered_none : (t : Tree) (m : ℕ) {members places : List ℕ} → length members ≡ nodes → length places ≡ nodes
-    → Gathered t m 0 0 members places
-gathered_none t m room places_room =
-    record {
-      members_room = room;
-      places_room = places_room;
-      many = omega arith;
-      owned = λ i small. absurd (omega arith);
-      passed = λ i small. absurd (omega arith);
-      found = λ n small own. absurd (omega arith);
-      back = λ i small. absurd (omega arith);
-    }
 
 module _ {t : Tree} {m n k : ℕ} {members places : List ℕ} (g : Gathered t m n k members places) where
   -- node n belongs to another machine
@@ -104,13 +90,6 @@ module _ {t : Tree} {m n k : ℕ} {members places : List ℕ} (g : Gathered t m 
             ∙ g.back i (omega arith))
             (equal_or_not i k);
       }
-
--- all nodes are passed
-pub gathered_all : {t : Tree} {m n k : ℕ} {members places : List ℕ} → Gathered t m n k members places → n ≤ nodes → nodes ≤ n
-    → Gathered t m nodes k members places
-gathered_all {n = n} g low high =
-    let same : n ≡ nodes = omega arith in
-    rw same at g
 
 -- every node of the machine has its place
 pub gathered_members : {t : Tree} → Sound t → {m k : ℕ} {members places : List ℕ} → Gathered t m nodes k members places

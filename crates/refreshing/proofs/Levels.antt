@@ -2,18 +2,15 @@
 use mathlib.Core.Path.{◌≡◌, refl, sym, ◌∙◌, ap}
 use mathlib.Core.Logic.{⊎_elim}
 use mathlib.Core.Option.{Option, none, some}
-use mathlib.Core.List.{List}
 use Prim.Native.Nat.{ℕ, suc, ◌+◌, ◌≤◌, ◌<◌}
 use native.Mathlib.Omega.{arith}
-use lib.ListN.{length, get_or, set, length-set}
-use lib.Seq.{get_or-set_same, get_or-set_other}
-use Rattle.definitions.specs.Limits.{machines, nodes, levels, absent}
+use Rattle.definitions.specs.Limits.{nodes, levels, absent}
 use Rattle.definitions.specs.Tree.{Tree, Sound, level}
 use Rattle.definitions.specs.Book.{word}
-use Rattle.definitions.proofs.Options.{none_some, present, equal_or_not}
+use Rattle.definitions.proofs.Options.{none_some, present}
 use Rattle.definitions.proofs.Path.{Deep, at_root, under, deep, level_on, level_deep, level_bound}
-use Rattle.definitions.proofs.Words.{present_word, start_range, holder_range, no_holder, no_start}
-use Rattle.refreshing.specs.Refresh.{machine_level, MachineLevels}
+use Rattle.definitions.proofs.Words.{present_word, holder_range, no_holder, no_start}
+use Rattle.refreshing.specs.Refresh.{machine_level}
 
 -- ---- levels
 
@@ -78,10 +75,6 @@ pub climbed_first : {t : Tree} {m w : ℕ} → w ≡ word (t.start m) → (w ≡
 climbed_first {t} {m} says there = record { used = (_, present_word (t.start m) says there); same = omega arith }
 
 module _ {t : Tree} (sound : Sound t) {m p count : ℕ} (at : Climbed t m p count) where
-  -- a machine in use is in range
-  pub climbed_range : p < machines
-  climbed_range = let (s, used) = at.used in (start_range t sound p s used).0
-
   -- nothing holds it: so many machines make up the level
   pub climbed_top : {h : ℕ} → h ≡ word (t.holder p) → h ≡ absent → count ≡ machine_level t m
   climbed_top says e =
@@ -114,29 +107,3 @@ module _ {t : Tree} (sound : Sound t) {m p count : ℕ} (at : Climbed t m p coun
           used = sound.owner_used h w own_w;
           same = omega (arith, at.same, level_below sound own_w (sound.held_below p h held));
         }
-
--- ---- the list of the levels, filled from the front
-
-pub levels_none : (t : Tree) (list : List ℕ) → length list ≡ machines → MachineLevels t 0 list
-levels_none t list e = record { length = e; at = λ n h. absurd (omega arith) }
-
--- one level more
-pub levels_more : {t : Tree} {k : ℕ} {list : List ℕ} → MachineLevels t k list → k < machines → {l : ℕ} → l ≡ machine_level t k
-    → MachineLevels t (k + 1) (set list k l)
-levels_more {t} {k} {list} b small {l} e =
-    record {
-      length = length-set list k l ∙ b.length;
-      at = λ n less.
-          ⊎_elim
-          (λ (same : n ≡ k).
-          ap (λ (j : ℕ). get_or (set list k l) j 0) same
-          ∙ get_or-set_same list k l 0 (omega (arith, b.length))
-          ∙ e
-          ∙ ap (machine_level t) (sym same))
-          (λ (other : n ≡ k → ⊥). get_or-set_other list k n l 0 other ∙ b.at n (omega arith))
-          (equal_or_not n k);
-    }
-
--- every level
-pub levels_all : {t : Tree} (k : ℕ) {list : List ℕ} → MachineLevels t k list → machines ≤ k → MachineLevels t machines list
-levels_all k b all = record { length = b.length; at = λ n h. b.at n (omega arith) }

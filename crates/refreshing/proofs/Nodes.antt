@@ -1,20 +1,19 @@
 -- The rows of a machine's nodes are written, place by place. Assumes nothing.
-use mathlib.Core.Path.{◌≡◌, refl, sym, ◌∙◌, ap, ap₂}
+use mathlib.Core.Path.{◌≡◌, refl, sym, ◌∙◌, ap}
 use mathlib.Core.Logic.{⊎_elim}
 use mathlib.Core.Option.{Option, some}
 use mathlib.Core.List.{List}
-use Prim.Native.Nat.{ℕ, ◌+◌, ◌≤◌, ◌<◌}
+use Prim.Native.Nat.{ℕ, ◌+◌, ◌<◌}
 use native.Mathlib.Omega.{arith}
 use lib.ListN.{length}
 use borrow.Author.Tests.{eq-eqb, ne_eqb}
-use Rattle.definitions.specs.Limits.{absent, blank, sheet_length}
+use Rattle.definitions.specs.Limits.{absent, blank}
 use Rattle.definitions.specs.Book.{number}
 use Rattle.definitions.specs.Sheet.{Rows, cost_of, rows_of}
 use Rattle.definitions.proofs.Options.{equal_or_not, put_same, put_other}
 use Rattle.search.specs.Search.{unreached, reached}
 use Rattle.search.specs.Parts.{at}
-use Rattle.sheet.specs.Fields.{Leaves, with_cost, with_before, with_by}
-use Rattle.sheet.proofs.Stores.{leaves_then}
+use Rattle.sheet.specs.Fields.{Leaves}
 use Rattle.search.proofs.Reading.{reached_is, number_is, number_none}
 use Rattle.refreshing.specs.Parts.{member_of, CostFits, PlaceFits, with_node, Writable, NodesWritten}
 
@@ -49,40 +48,9 @@ name_there {members} {v} fits other {w} e =
     let is : number v ≡ some v = number_is v other in
     number_is w (omega (arith, (fits.fits v is).1)) ∙ ap {B = Option ℕ} some e ∙ sym (ap (member_of members) is)
 
--- the row of one node is written, word by word
-pub node_written : {a b c d : List ℕ} (n u v w : ℕ) {cost before : Option ℕ} → Leaves a b (with_cost (rows_of a) n (cost_of u))
-    → Leaves b c (with_before (rows_of b) n (number v)) → Leaves c d (with_by (rows_of c) n (number w)) → cost_of u ≡ cost → number v ≡ before
-    → Leaves a d (with_node (rows_of a) n cost before (number w))
-node_written {a} n u v w first second third ec eb =
-    let all =
-    leaves_then (λ r. with_by r n (number w)) (leaves_then (λ r. with_before r n (number v)) first second) third in
-    record {
-      length = all.length;
-      marks = all.marks;
-      rows = all.rows ∙ ap₂ (λ (o p : Option ℕ). with_node (rows_of a) n o p (number w)) ec eb;
-    }
-
 -- ---- place by place
 
 module _ {members dist before by : List ℕ} where
-  -- nothing yet
-  pub nodes_none : {sheet : List ℕ} → length sheet ≡ sheet_length → NodesWritten 0 members dist before by sheet sheet
-  nodes_none long =
-      record {
-        leaves = record { length = long; marks = λ marks. marks; rows = refl };
-        stale = λ p. refl;
-        exit = λ p x. refl;
-        last = λ p x. refl;
-        cost = λ n other. refl;
-        before_kept = λ n other. refl;
-        by_kept = λ n other. refl;
-        filled = record {
-          cost = λ i small. absurd (omega arith);
-          before = λ i small. absurd (omega arith);
-          by = λ i small. absurd (omega arith);
-        };
-      }
-
   -- one place more
   module _ {k i : ℕ} {sheet mid after : List ℕ} (able : Writable k members dist before by) (small : i < k)
       (done : NodesWritten i members dist before by sheet mid)
@@ -149,10 +117,3 @@ module _ {members dist before by : List ℕ} where
                 (equal_or_not j i);
           };
         }
-
--- all places
-pub nodes_all : {i k : ℕ} {members dist before by sheet after : List ℕ} → NodesWritten i members dist before by sheet after → i ≤ k → k ≤ i
-    → NodesWritten k members dist before by sheet after
-nodes_all {i} {k} done low high =
-    let same : i ≡ k = omega arith in
-    rw same at done

@@ -2,7 +2,7 @@
 use mathlib.Core.Path.{◌≡◌, refl, ◌∙◌, ap, ap₂}
 use mathlib.Core.Option.{Option, none, some}
 use mathlib.Core.List.{List}
-use Prim.Native.Nat.{ℕ, ◌+◌, ◌/◌, ◌%◌, ◌<◌}
+use Prim.Native.Nat.{ℕ, ◌+◌, ◌/◌, ◌%◌}
 use native.Mathlib.Omega.{arith}
 use Rattle.definitions.specs.Limits.{nodes, costs, absent, blank}
 use Rattle.definitions.specs.Tree.{Tree, Transition, Sound}
@@ -15,7 +15,7 @@ use Rattle.book.proofs.Counts.{no_counting, some_counting, counting_node, counti
 use Rattle.search.specs.Search.{entry_move}
 use Rattle.search.specs.Parts.{at}
 use Rattle.search.proofs.Tables.{entry_none, entry_some}
-use Rattle.refreshing.specs.Parts.{Gathered, placed, Placing}
+use Rattle.refreshing.specs.Parts.{placed, Placing}
 
 module _ {t : Tree} (sound : Sound t) (r : Rows) (places : List ℕ) (n x : ℕ) {w : ℕ} (says : w ≡ transition_word (counting t n x)) where
   -- a node without a transition has no move
@@ -43,20 +43,3 @@ module _ {t : Tree} (sound : Sound t) (r : Rows) (places : List ℕ) (n x : ℕ)
         let same : c ≡ e + w % costs = omega arith in
         rw (move_by t r n x (some_counting sound n x says there) exit)
         (entry_some v c (omega arith) ∙ ap₂ (λ (u k : ℕ). some (record { node = u; cost = k })) here same)
-
--- a node with a place is in range
-pub placing_range : {t : Tree} → Sound t → {places : List ℕ} {n : ℕ} → Placing t places n → n < nodes
-placing_range sound {n = n} placing = let (m, own) = placing.used in sound.node_range n m own
-
--- the nodes at the places have theirs
-pub gathered_placing : {t : Tree} → Sound t → {m k i n : ℕ} {members places : List ℕ} → Gathered t m nodes k members places → i < k
-    → n ≡ at members i → Placing t places n
-gathered_placing {t} sound {m} {i = i} g small e =
-    let own : t.owner _ ≡ some m = ap t.owner e ∙ g.owned i small in
-    record {
-      room = g.places_room;
-      used = (m, own);
-      small = λ v same.
-          let own_v = same ∙ own in
-          omega (arith, (g.found v (sound.node_range v m own_v) own_v).0, g.many);
-    }

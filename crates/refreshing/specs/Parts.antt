@@ -1,6 +1,6 @@
 -- What the parts of a refresh leave: the nodes of one machine at places 0 to k - 1, the tables of their moves, what a search over these
 -- places finds, and the rows that are filled with it.
-use Rattle.std.specs.Prelude.{◌≡◌, false, List, ℕ, ◌+◌, ◌*◌, ◌≤◌, ◌<◌, length}
+use Rattle.std.specs.Prelude.{◌≡◌, false, List, ℕ, ◌+◌, ◌≤◌, ◌<◌, length}
 use Rattle.std.proofs.Math.Option.{Option, none, some}
 use Rattle.definitions.specs.Basics.{◌>>=◌}
 use Rattle.definitions.specs.Limits.{nodes, commands, absent, blank, largest_plan_cost}

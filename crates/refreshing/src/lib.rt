@@ -19,9 +19,6 @@ ghost use Rattle.refreshing.specs.Parts.{ExitWritten, ExitsWritten};
 ghost use Rattle.refreshing.specs.Refresh.{machine_level, MachineLevels, Fillable, Filled, FreshBelow, StepFilled, FilledBelow};
 ghost use Rattle.refreshing.specs.Refresh.{Refreshes};
 
-use book::wide;
-use sheet::OwnExit;
-
 // An entry of the tables: the place where a move leads, ABSENT where there is no move, and what it costs.
 #[derive(Drop)]
 struct Entry {
@@ -55,10 +52,8 @@ fn gather(book: &[u32], m: u32, members: &mut [u32], places: &mut [u32]) -> u32
     ensures { Gathered (tree_of book.now) m nodes result members.new places.new }
 {
     let mut k = 0u32;
-    let mut n = 0u32;
-    while n < book::NODES {
+    for n in 0..book::NODES {
         k = gather_node(book, m, n, k, members, places);
-        n += 1;
     }
     k
 }
@@ -68,10 +63,10 @@ fn leave(book: &[u32], sheet: &[u32], n: u32, x: u32, d: u64, w: u32) -> u64
     requires { Readable book.now sheet.now × (n < nodes) × (x < commands) × (d ≤ largest_plan_cost) }
     ensures { LeavesAt (node_exit (tree_of book.now) (rows_of sheet.now) n x) d w result }
 {
-    let OwnExit::Costs(e) = sheet::own_exit(book, sheet, n, x) else {
+    let Some(e) = sheet::own_exit(book, sheet, n, x) else {
         return search::UNREACHED;
     };
-    d + e + wide(w)
+    d + e + u64::from(w)
 }
 
 // The move of node n for command x, as an entry of the tables. What it may need is read first, so that the tests only pick.
@@ -113,12 +108,10 @@ fn tables(
     ensures { Tabled (member_move (tree_of book.now) (rows_of sheet.now) (at members.now)
         (at places.now)) k target.new price.new }
 {
-    let mut j = 0u32;
-    while j < 16 * k {
+    for j in 0..16 * k {
         let e = table_entry(book, sheet, places, book::word(members, j / 16), j % 16);
         target[j as usize] = e.target;
         price[j as usize] = e.price;
-        j += 1;
     }
 }
 
@@ -196,18 +189,8 @@ fn write_nodes(sheet: &mut [u32], k: u32, members: &[u32], dist: &[u64], before:
     ensures { NodesWritten k members.now dist.now before.now by.now
         sheet.old sheet.new }
 {
-    let mut i = 0u32;
-    while i < k {
-        let d = dist[i as usize];
-        write_node(
-            sheet,
-            members,
-            book::word(members, i),
-            d,
-            book::word(before, i),
-            book::word(by, i),
-        );
-        i += 1;
+    for (i, n) in members[..k as usize].iter().enumerate() {
+        write_node(sheet, members, *n, dist[i], before[i], by[i]);
     }
 }
 
@@ -235,16 +218,12 @@ fn cheapest(book: &[u32], sheet: &[u32], k: u32, members: &[u32], dist: &[u64], 
 {
     let mut cost = search::UNREACHED;
     let mut node = book::ABSENT;
-    let mut j = 0u32;
-    while j < k {
-        let n = book::word(members, j);
-        let d = dist[j as usize];
-        let c = way_cost(book, sheet, n, d, x);
+    for (j, n) in members[..k as usize].iter().enumerate() {
+        let c = way_cost(book, sheet, *n, dist[j], x);
         if c < cost {
             cost = c;
-            node = n;
+            node = *n;
         }
-        j += 1;
     }
     WayOut { cost, node }
 }
@@ -276,10 +255,8 @@ fn write_exits(book: &[u32], sheet: &mut [u32], m: u32, k: u32, members: &[u32],
     ensures { ExitsWritten (tree_of book.now) m k commands members.now dist.now
         sheet.old sheet.new }
 {
-    let mut x = 0u32;
-    while x < book::COMMANDS {
+    for x in 0..book::COMMANDS {
         write_exit(book, sheet, m, k, members, dist, x);
-        x += 1;
     }
 }
 
@@ -337,10 +314,8 @@ fn machine_levels(book: &[u32]) -> [u32; 64]
     ensures { MachineLevels (tree_of book.now) machines result }
 {
     let mut list = [0u32; 64];
-    let mut m = 0u32;
-    while m < book::MACHINES {
+    for m in 0..book::MACHINES {
         list[m as usize] = machine_level(book, m);
-        m += 1;
     }
     list
 }
@@ -381,10 +356,8 @@ fn fill_level(
         × FreshBelow (tree_of book.now) l (rows_of sheet.old) × (0 < l) × TableRoom target.old price.old }
     ensures { FilledBelow (tree_of book.now) (l - 1) sheet.old sheet.new }
 {
-    let mut m = 0u32;
-    while m < book::MACHINES {
+    for m in 0..book::MACHINES {
         fill_if_stale(book, sheet, list, l, m, target, price);
-        m += 1;
     }
 }
 
@@ -396,9 +369,7 @@ pub fn refresh(book: &[u32], sheet: &mut [u32])
     let list = machine_levels(book);
     let mut target = [0u32; 4096];
     let mut price = [0u64; 4096];
-    let mut l = book::LEVELS;
-    while 0 < l {
+    for l in (1..=book::LEVELS).rev() {
         fill_level(book, sheet, &list, l, &mut target, &mut price);
-        l -= 1;
     }
 }

@@ -125,16 +125,6 @@ from_to ws n k i =
     (put (tree_of ws).transition k (grown ((tree_of ws).transition k) (λ x. not_into n ((tree_of ws).transition k x)) i))
 
 module _ (ws : List ℕ) (n k : ℕ) where
-  pub from_none : length ws ≡ book_length → Holds ws (from_to ws n k 0)
-  from_none l =
-      record {
-        length = l;
-        tree =
-            ap (with_transitions (tree_of ws))
-            (sym (put_own (tree_of ws).transition k)
-            ∙ ap (put (tree_of ws).transition k) (grown_none ((tree_of ws).transition k) (λ x. not_into n ((tree_of ws).transition k x))));
-      }
-
   from_step : (grid : ℕ → ℕ → Option Transition) (i : ℕ) (row : ℕ → Option Transition) → row i ≡ grid k i
       → put (put grid k row) k (put (put grid k row k) i (not_into n (put grid k row k i))) ≡ put grid k (put row i (not_into n (grid k i)))
   from_step grid i row e =

@@ -4,17 +4,14 @@ use mathlib.Core.Logic.{⊎_elim}
 use mathlib.Core.Bool.{Bool, false, ◌||◌, or-false}
 use mathlib.Core.Option.{Option, none, some}
 use mathlib.Core.List.{List}
-use Prim.Native.Nat.{ℕ, ◌+◌, ◌≤◌, ◌<◌}
-use native.Mathlib.Omega.{arith}
+use Prim.Native.Nat.{ℕ, ◌<◌}
 use lib.Dec.{eqb}
-use lib.ListN.{length, set, length-set}
-use lib.Seq.{get_or-set_same, get_or-set_other}
 use Rattle.definitions.specs.Basics.{option}
 use Rattle.definitions.specs.Limits.{machines, nodes, absent}
 use Rattle.definitions.specs.Tree.{within}
 use Rattle.definitions.specs.Book.{word, tree_of, WellFormed}
 use Rattle.definitions.specs.Edit.{held_within}
-use Rattle.definitions.proofs.Options.{present, equal_or_not}
+use Rattle.definitions.proofs.Options.{present}
 use Rattle.definitions.proofs.Words.{present_word, no_holder, owner_range, holder_range}
 use Rattle.definitions.proofs.Commands.{within_top, within_up}
 use Rattle.book.specs.Chosen.{chosen}
@@ -38,33 +35,6 @@ module _ (ws : List ℕ) (w : WellFormed ws) (n m : ℕ) {h : ℕ} (holder : h �
     -- node h holds it
     pub held_told : within (tree_of ws) n h ≡ held_within (tree_of ws) n m
     held_told = sym (ap (option false (within (tree_of ws) n)) held_by)
-
--- a list, filled from the front
-module _ (test : ℕ → Bool) where
-  -- nothing yet
-  pub listed_none : (list : List ℕ) → length list ≡ machines → Listed 0 test list
-  listed_none list e = record { length = e; at = λ m h. absurd (omega arith) }
-
-  -- one number more
-  pub listed_more : (i : ℕ) {list : List ℕ} → Listed i test list → i < machines → (v : ℕ) → eqb v 1 ≡ test i → Listed (i + 1) test (set list i v)
-  listed_more i {list} b small v e =
-      record {
-        length = length-set list i v ∙ b.length;
-        at =
-            λ m under.
-            ⊎_elim
-            (λ same.
-            ap (λ (j : ℕ). chosen (set list i v) j) same
-            ∙ ap (λ (a : ℕ). eqb a 1) (get_or-set_same list i v 0 (omega (arith, b.length)))
-            ∙ e
-            ∙ ap test (sym same))
-            (λ other. ap (λ (a : ℕ). eqb a 1) (get_or-set_other list i m v 0 other) ∙ b.at m (omega (arith, other)))
-            (equal_or_not m i);
-      }
-
-  -- all of them
-  pub listed_all : (i : ℕ) {list : List ℕ} → Listed i test list → machines ≤ i → Listed machines test list
-  listed_all i b all = record { length = b.length; at = λ m h. b.at m (omega arith) }
 
 -- ---- the nodes that go with a node
 

@@ -8,7 +8,7 @@ use Prim.Native.Nat.{ℕ, ◌+◌, ◌≤◌, ◌<◌}
 use native.Mathlib.Omega.{arith}
 use lib.Dec.{eqb}
 use lib.ListN.{length}
-use borrow.Author.Tests.{le-ltb, eq-eqb, ne_eqb}
+use borrow.Author.Tests.{le-ltb, ne_eqb}
 use Rattle.definitions.specs.Basics.{option, unless, put}
 use Rattle.definitions.specs.Limits.{machines, nodes, commands, sheet_length, absent}
 use Rattle.definitions.specs.Tree.{Tree, Transition, with_nodes, with_transitions, UsedNode, within}
@@ -22,20 +22,16 @@ use Rattle.stepping.proofs.Laws.{owner_told}
 use Rattle.book.specs.Chosen.{chosen}
 use Rattle.sheet.specs.Fields.{with_blank_nodes}
 use Rattle.marking.specs.Stale.{owned_by}
-use Rattle.clearing.specs.Gone.{Sized, Left, NodeDropped}
-use Rattle.clearing.proofs.Laws.{left_same, left_then, left_idle}
+use Rattle.clearing.specs.Gone.{Sized, Left}
+use Rattle.clearing.proofs.Laws.{left_same, left_then}
 use Rattle.removing.specs.Within.{Listed, not_into, without_into_at, without_into, goes_with, cut, with_node_of, with_row_of, OwnerInRange, Linked}
 use Rattle.removing.specs.Within.{RemovedAt, NodesRemoved}
 use Rattle.removing.proofs.Lists.{goes_within}
-use Rattle.removing.proofs.Into.{grown, grown_none, grown_at, grown_more, grown_all, put_own}
+use Rattle.removing.proofs.Into.{grown, grown_at, grown_more, grown_all, put_own}
 
 -- ---- whether a node goes, from what the words say
 
 module _ (ws list : List ℕ) (n k : ℕ) where
-  -- node n itself
-  pub goes_self : n ≡ k → true ≡ goes_with (tree_of ws) (chosen list) n k
-  goes_self e = sym (ap (λ (b : Bool). b || owned_by (tree_of ws) (chosen list) k) (eq-eqb n k e))
-
   module _ (range : OwnerInRange (tree_of ws) k) (other : n ≡ k → ⊥) {o : ℕ} (told : o ≡ word ((tree_of ws).owner k)) where
     by_owner : {v : Option ℕ} → (tree_of ws).owner k ≡ v → option false (chosen list) v ≡ goes_with (tree_of ws) (chosen list) n k
     by_owner own =
@@ -74,12 +70,6 @@ row_by : (r : Rows) (gone : ℕ → Bool) (k : ℕ) {b : Bool} → gone k ≡ b
 row_by r gone k says = ap (λ (c : Bool). with_row_of r (with_blank_nodes r (λ j. c)) k) (sym says)
 
 module _ (book : List ℕ) (gone : ℕ → Bool) (n k : ℕ) where
-  -- the node goes
-  pub node_goes : {sheet book' sheet' : List ℕ} → gone k ≡ true → NodeDropped book sheet book' sheet' k
-      → RemovedAt book sheet book' sheet' gone n k
-  node_goes {sheet} on dropped =
-      left_same dropped (record_by (tree_of book) gone n k on) (row_by (rows_of sheet) gone k on)
-
   -- it stays, and its transitions into n are cleared
   pub node_cleared : (sheet : List ℕ) {book' : List ℕ} → length sheet ≡ sheet_length → gone k ≡ false
       → Holds book' (without_into_at (tree_of book) n k) → RemovedAt book sheet book' sheet gone n k
@@ -137,18 +127,6 @@ rows_to r q i =
       before = grown r.before q.before i;
       by = grown r.by q.by i;
     }
-
--- at first
-tree_none : (t u : Tree) → t ≡ tree_to t u 0
-tree_none t u =
-    λ i.
-    with_nodes t (grown_none t.owner u.owner i) (grown_none t.below u.below i) (grown_none t.transition u.transition i)
-    (grown_none t.hold u.hold i)
-
-rows_none : (r q : Rows) → r ≡ rows_to r q 0
-rows_none r q =
-    same_rows _ _ (λ m. refl) (λ m x. refl) (λ m x. refl) (at (grown_none r.cost q.cost))
-    (at (grown_none r.before q.before)) (at (grown_none r.by q.by))
 
 -- one node more, whose record, or row, is the one that is wanted
 grown_on : {A : Type 0} (f g : ℕ → A) (i : ℕ) {v : A} → v ≡ g i → put (grown f g i) i v ≡ grown f g (i + 1)
@@ -243,11 +221,6 @@ Passed b s n i b' s' =
     (rows_to (rows_of s) (with_blank_nodes (rows_of s) (within (tree_of b) n)) i)
 
 module _ (b : List ℕ) (w : WellFormed b) (s : List ℕ) (n : ℕ) where
-  pub pass_none : length s ≡ sheet_length → Passed b s n 0 b s
-  pass_none l =
-      left_same (left_idle b s (record { book = w.length; sheet = l })) (tree_none (tree_of b) (cut (tree_of b) (within (tree_of b) n) n))
-      (rows_none (rows_of s) (with_blank_nodes (rows_of s) (within (tree_of b) n)))
-
   module _ (i : ℕ) {b₁ s₁ : List ℕ} (passed : Passed b s n i b₁ s₁) where
     -- what there was of the node in hand is there still
     owner_still : (tree_of b₁).owner i ≡ (tree_of b).owner i

@@ -23,7 +23,7 @@ fn held_within(book: &[u32], n: u32, m: u32) -> u32
     if h == book::ABSENT {
         return 0;
     }
-    stepping::within(book, n, h)
+    u32::from(stepping::within(book, n, h))
 }
 
 // A list with 1 at each machine that node n or a node below it holds.
@@ -32,10 +32,8 @@ fn machines_within(book: &[u32], n: u32) -> [u32; 64]
     ensures { Listed machines (held_within (tree_of book.now) n) result }
 {
     let mut list = [0u32; 64];
-    let mut m = 0u32;
-    while m < book::MACHINES {
+    for m in 0..book::MACHINES {
         list[m as usize] = held_within(book, n, m);
-        m += 1;
     }
     list
 }
@@ -57,10 +55,8 @@ fn clear_into_from(book: &mut [u32], k: u32, n: u32)
     requires { (length book.old ≡ book_length) × (k < nodes) × (n < nodes) }
     ensures { Holds book.new (without_into_at (tree_of book.old) n k) }
 {
-    let mut x = 0u32;
-    while x < book::COMMANDS {
+    for x in 0..book::COMMANDS {
         clear_into_at(book, k, x, n);
-        x += 1;
     }
 }
 
@@ -102,10 +98,8 @@ fn remove_nodes(book: &mut [u32], sheet: &mut [u32], gone: &[u32; 64], n: u32)
     ensures { NodesRemoved book.old sheet.old book.new sheet.new n }
 {
     let p = book::owner(book, n);
-    let mut k = 0u32;
-    while k < book::NODES {
+    for k in 0..book::NODES {
         remove_at(book, sheet, gone, p, n, k);
-        k += 1;
     }
 }
 

@@ -1,56 +1,51 @@
 // What is below a node, replaced: in ways meant to keep what it costs to come up to the node, and by changes that may not. Which do is for the search to
 // say.
-use crate::chance::{FREE, FREE_MACHINE, HELD_MACHINE, OF_MACHINE, any_cost, draw, find, once_in};
+use crate::chance::{Wanted, any_cost, find};
 use crate::making::{connect, other_command, refine};
 use crate::words::{
     BELOW, BLANK, Book, HOLDER, LEAVE, NODES, OWNER, START, beneath, clear_machine, clear_node,
     held, machine, node, put_machine, put_node, set_transition, transition,
 };
+use trying::{draw, once_in};
 
 // The ways: other numbers; states added that are no cheaper; cost moved between exit and leaving; all three. And the changes: of a cost inside, of
 // the leaving charge, and a transition inside that goes.
-pub const RENUMBERED: u32 = 0;
-
-pub const STATES_ADDED: u32 = 1;
-
-pub const COST_MOVED: u32 = 2;
-
-pub const ALL_THREE: u32 = 3;
-
-pub const COST_CHANGED: u32 = 4;
-
-pub const LEAVING_CHANGED: u32 = 5;
-
-pub const TRANSITION_GONE: u32 = 6;
+#[derive(Clone, Copy, PartialEq, Eq)]
+pub enum Way {
+    Renumbered,
+    StatesAdded,
+    CostMoved,
+    AllThree,
+    CostChanged,
+    LeavingChanged,
+    TransitionGone,
+}
 
 // Where a transition leads to node k, it then leads to node f.
 fn retarget(list: &mut Book, k: u32, f: u32) {
-    let mut i = 0u32;
-    while i < 4096 {
-        let w = transition(list, i / 16, i % 16);
-        if w / 65536 == k {
-            set_transition(list, i / 16, i % 16, f, w % 65536);
+    for n in 0..NODES {
+        for x in 0..16 {
+            let w = transition(list, n, x);
+            if w / 65536 == k {
+                set_transition(list, n, x, f, w % 65536);
+            }
         }
-        i += 1;
     }
 }
 
 // Writes node k's words as node f's.
 fn copy_node(list: &mut Book, k: u32, f: u32) {
-    let mut i = 0u32;
-    while i < 19 {
+    for i in 0..19 {
         let w = node(list, k, i);
         put_node(list, f, i, w);
-        i += 1;
     }
 }
 
 // Node k gets a number that is not in use.
 fn move_node(list: &mut Book, seed: &mut u64, k: u32) {
-    let f = find(list, seed, FREE, 0);
-    if f >= NODES {
+    let Some(f) = find(list, seed, Wanted::Free) else {
         return;
-    }
+    };
     copy_node(list, k, f);
     put_machine(list, node(list, k, BELOW), HOLDER, f);
     let m = node(list, k, OWNER);
@@ -63,21 +58,18 @@ fn move_node(list: &mut Book, seed: &mut u64, k: u32) {
 
 // The nodes of machine m go to machine f.
 fn move_nodes(list: &mut Book, m: u32, f: u32) {
-    let mut k = 0u32;
-    while k < NODES {
+    for k in 0..NODES {
         if node(list, k, OWNER) == m {
             put_node(list, k, OWNER, f);
         }
-        k += 1;
     }
 }
 
 // Machine m gets a number that is not in use.
 fn move_machine(list: &mut Book, seed: &mut u64, m: u32) {
-    let f = find(list, seed, FREE_MACHINE, 0);
-    if f >= 64 {
+    let Some(f) = find(list, seed, Wanted::FreeMachine) else {
         return;
-    }
+    };
     let h = machine(list, m, HOLDER);
     put_machine(list, f, HOLDER, h);
     put_machine(list, f, START, machine(list, m, START));
@@ -89,26 +81,22 @@ fn move_machine(list: &mut Book, seed: &mut u64, m: u32) {
 
 // All nodes and machines below node n get other numbers.
 fn renumber(list: &mut Book, seed: &mut u64, n: u32) {
-    let mut k = 0u32;
-    while k < NODES {
+    for k in 0..NODES {
         if beneath(list, n, k) {
             move_node(list, seed, k);
         }
         if held(list, n, k) {
             move_machine(list, seed, k);
         }
-        k += 1;
     }
 }
 
-// Gives node p transitions to node v for all commands but one, or with 16 for all.
-fn fill_commands(list: &mut Book, p: u32, v: u32, c: u32, but: u32) {
-    let mut x = 0u32;
-    while x < 16 {
-        if x != but {
+// Gives node p transitions to node v for all commands, or for all but one.
+fn fill_commands(list: &mut Book, p: u32, v: u32, c: u32, but: Option<u32>) {
+    for x in 0..16 {
+        if but != Some(x) {
             set_transition(list, p, x, v, c);
         }
-        x += 1;
     }
 }
 
@@ -119,7 +107,7 @@ fn add_free(list: &mut Book, m: u32, q: u32, x: u32, p: u32) {
     }
     put_node(list, p, OWNER, m);
     set_transition(list, q, x, p, 0);
-    fill_commands(list, p, p, 3, x);
+    fill_commands(list, p, p, 3, Some(x));
 }
 
 // Adds node p to machine m at a high cost: node q has a transition to it for a command that is seldom in use. By every command p leads back into the
@@ -128,22 +116,24 @@ fn add_dear(list: &mut Book, seed: &mut u64, m: u32, q: u32, p: u32) {
     let x = other_command(list, seed);
     put_node(list, p, OWNER, m);
     set_transition(list, q, x, p, 60000 + draw(seed, 999) % 999);
-    fill_commands(list, p, q, 9, 16);
+    fill_commands(list, p, q, 9, None);
     connect(list, seed, p, 9);
     if once_in(seed, 2) {
-        let below = find(list, seed, FREE_MACHINE, 0);
-        let k = find(list, seed, FREE, 0);
-        refine(list, p, below, k);
+        let below = find(list, seed, Wanted::FreeMachine);
+        let k = find(list, seed, Wanted::Free);
+        if let (Some(below), Some(k)) = (below, k) {
+            refine(list, p, below, k);
+        }
     }
 }
 
 // Adds a state to machine m, reached from one of its nodes.
 fn add_state(list: &mut Book, seed: &mut u64, m: u32) {
-    let q = find(list, seed, OF_MACHINE, m);
-    let p = find(list, seed, FREE, 0);
-    if q >= NODES || p >= NODES {
+    let q = find(list, seed, Wanted::OfMachine(m));
+    let p = find(list, seed, Wanted::Free);
+    let (Some(q), Some(p)) = (q, p) else {
         return;
-    }
+    };
     if q == machine(list, m, START) || once_in(seed, 2) {
         let x = draw(seed, 16);
         add_free(list, m, q, x, p);
@@ -154,39 +144,36 @@ fn add_state(list: &mut Book, seed: &mut u64, m: u32) {
 
 // Adds states below node n.
 fn add_states(list: &mut Book, seed: &mut u64, n: u32) {
-    let mut i = 0u32;
-    while i < 3 {
-        let m = find(list, seed, HELD_MACHINE, n);
-        add_state(list, seed, m);
-        i += 1;
+    for _ in 0..3 {
+        if let Some(m) = find(list, seed, Wanted::HeldMachine(n)) {
+            add_state(list, seed, m);
+        }
     }
 }
 
 // Gives a machine below node n a leaving charge, where it has none, and gives its number.
-fn give_leaving(list: &mut Book, seed: &mut u64, n: u32) -> u32 {
-    let m = find(list, seed, HELD_MACHINE, n);
+fn give_leaving(list: &mut Book, seed: &mut u64, n: u32) -> Option<u32> {
+    let m = find(list, seed, Wanted::HeldMachine(n))?;
     if machine(list, m, LEAVE) == 0 {
         put_machine(list, m, LEAVE, 1 + draw(seed, 40) % 40);
     }
-    m
-}
-
-// The first number less the second; 0 where that is larger.
-fn less(a: u32, b: u32) -> u32 {
-    if a < b { 0 } else { a - b }
+    Some(m)
 }
 
 // Takes some of machine m's leaving charge away, and adds as much to every exit: a new start node leads to the old one by every command, at this cost.
 fn move_cost(list: &mut Book, seed: &mut u64, m: u32) {
-    let s = find(list, seed, FREE, 0);
+    let s = find(list, seed, Wanted::Free);
     let leave = machine(list, m, LEAVE);
     let d = draw(seed, leave) % 65535 + 1;
-    if s >= NODES || m >= 64 || d > leave {
+    let Some(s) = s else {
+        return;
+    };
+    if d > leave {
         return;
     }
-    put_machine(list, m, LEAVE, less(leave, d));
+    put_machine(list, m, LEAVE, leave - d);
     put_node(list, s, OWNER, m);
-    fill_commands(list, s, machine(list, m, START), d, 16);
+    fill_commands(list, s, machine(list, m, START), d, None);
     put_machine(list, m, START, s);
 }
 
@@ -206,8 +193,7 @@ fn change_cost(seed: &mut u64, c: u32) -> u32 {
 // Changes a transition of a start node below node n: another cost, or it goes.
 fn change_transition(list: &mut Book, seed: &mut u64, n: u32, gone: bool) {
     let from = draw(seed, 4096) % 4096;
-    let mut i = 0u32;
-    while i < 4096 {
+    for i in 0..4096 {
         let at = (from + i) % 4096;
         let w = transition(list, at / 16, at % 16);
         if w != BLANK && is_start(list, at / 16) && beneath(list, n, at / 16) {
@@ -218,7 +204,6 @@ fn change_transition(list: &mut Book, seed: &mut u64, n: u32, gone: bool) {
             }
             return;
         }
-        i += 1;
     }
 }
 
@@ -236,26 +221,24 @@ fn change_leaving(list: &mut Book, seed: &mut u64, n: u32) {
 
 // Makes the second book from the first: what is below node n, replaced in a way. Where cost is to be moved, the first gets a leaving charge if it has
 // none.
-pub fn replace(first: &mut Book, second: &mut Book, seed: &mut u64, n: u32, way: u32) {
-    let m = if way == COST_MOVED || way == ALL_THREE {
+pub fn replace(first: &mut Book, second: &mut Book, seed: &mut u64, n: u32, way: Way) {
+    let charged = if way == Way::CostMoved || way == Way::AllThree {
         give_leaving(first, seed, n)
     } else {
-        64
+        None
     };
     *second = *first;
     match way {
-        STATES_ADDED => add_states(second, seed, n),
-        COST_MOVED => move_cost(second, seed, m),
-        ALL_THREE => {
-            add_states(second, seed, n);
-            move_cost(second, seed, m);
-        }
-        COST_CHANGED => change_transition(second, seed, n, false),
-        LEAVING_CHANGED => change_leaving(second, seed, n),
-        TRANSITION_GONE => change_transition(second, seed, n, true),
-        _ => {}
+        Way::StatesAdded | Way::AllThree => add_states(second, seed, n),
+        Way::CostChanged => change_transition(second, seed, n, false),
+        Way::LeavingChanged => change_leaving(second, seed, n),
+        Way::TransitionGone => change_transition(second, seed, n, true),
+        Way::Renumbered | Way::CostMoved => {}
     }
-    if way == RENUMBERED || way == ALL_THREE || once_in(seed, 3) {
+    if let Some(m) = charged {
+        move_cost(second, seed, m);
+    }
+    if way == Way::Renumbered || way == Way::AllThree || once_in(seed, 3) {
         renumber(second, seed, n);
     }
 }

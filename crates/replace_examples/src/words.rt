@@ -18,7 +18,8 @@ pub const START: u32 = 1;
 
 pub const LEAVE: u32 = 2;
 
-// The words of a node: its machine, the machine below it, from 2 on a transition for each command, its hold.
+// The words of a node: its machine, the machine below it, from 2 on a transition for each command, its hold. They are numbers, and no enum, since
+// places are reckoned with them: 2 + x.
 pub const OWNER: u32 = 0;
 
 pub const BELOW: u32 = 1;
@@ -99,13 +100,11 @@ pub fn above(list: &Book, n: u32) -> u32 {
 // Whether node k is n or below it.
 pub fn within(list: &Book, n: u32, k: u32) -> bool {
     let mut at = k;
-    let mut i = 0u32;
-    while i < 8 {
+    for _ in 0..8 {
         if at == n {
             return true;
         }
         at = above(list, at);
-        i += 1;
     }
     false
 }
@@ -141,10 +140,8 @@ fn unused(k: u32) -> u32 {
 
 // Makes node n one that is not in use.
 pub fn clear_node(list: &mut Book, n: u32) {
-    let mut k = 0u32;
-    while k < 19 {
+    for k in 0..19 {
         put_node(list, n, k, unused(k));
-        k += 1;
     }
 }
 
@@ -155,17 +152,23 @@ pub fn clear_machine(list: &mut Book, m: u32) {
     put_machine(list, m, LEAVE, 0);
 }
 
-// Makes all below node n, or with "none" the whole book, not in use, by what another list says of it.
+// Makes all nodes and machines not in use.
+pub fn clear_all(list: &mut Book) {
+    for k in 0..NODES {
+        clear_node(list, k);
+        clear_machine(list, k);
+    }
+}
+
+// Makes all below node n not in use, by what another list says of it.
 pub fn clear_below(list: &mut Book, from: &Book, n: u32) {
-    let mut k = 0u32;
-    while k < NODES {
-        if n == NONE || beneath(from, n, k) {
+    for k in 0..NODES {
+        if beneath(from, n, k) {
             clear_node(list, k);
         }
-        if n == NONE || held(from, n, k) {
+        if held(from, n, k) {
             clear_machine(list, k);
         }
-        k += 1;
     }
     put_node(list, n, BELOW, NONE);
 }

@@ -2,66 +2,46 @@
 // rows of a table (document 02, W-208) are three words each: owner, machine below, and 1 for a start.
 #![tactic(auto)]
 
-use planning::PlanAnswer;
-use wholerun::{Opening, RunAnswer};
+ghost use Rattle.std.specs.Prelude.{◌<◌};
 
-// The descriptor of standard output.
-const STDOUT_FILENO: i32 = 1;
+use planning::Planned;
+use refusals::Refusal;
+use trying::{front, number, numbers, say, say_no, text};
+use wholerun::{Opening, RunError};
 
-// Writes a space and a number.
-fn number(n: u64) {
-    io::write_all(STDOUT_FILENO, b" ");
-    io::print_decimal(STDOUT_FILENO, n);
-}
-
-// A byte in 64 bits.
-fn wide(b: u8) -> u64 {
-    b as u64
-}
-
-// Writes the commands at the front of a buffer.
-fn show_commands(buffer: &[u8; 255], count: u32) {
-    let mut i = 0u32;
-    while i < count {
-        if 255 <= i {
-            return;
+// Writes Plan's answer: cost, count and commands, or `no` and the refusal.
+fn show_plan(answer: Result<Planned, Refusal>, buffer: &[u8]) {
+    match answer {
+        Ok(Planned { cost, count }) => {
+            number(cost);
+            number(count);
+            numbers(front(buffer, count as usize));
         }
-        number(wide(buffer[i as usize]));
-        i += 1;
+        Err(refusal) => say_no(refusal),
     }
 }
 
-// Writes Plan's answer: cost, count and commands, or `no` and the refusal.
-fn show_plan(answer: PlanAnswer, buffer: &[u8; 255]) {
-    match answer {
-        PlanAnswer::Planned { cost, count } => {
-            number(cost as u64);
-            number(count as u64);
-            show_commands(buffer, count);
-        }
-        PlanAnswer::Refused(k) => {
-            io::write_all(STDOUT_FILENO, b" no");
-            number(k as u64);
-        }
+// The number of what keeps a run from Plan: a refusal's, or 99 for malformed ends, which no refusal has.
+fn error_number(error: RunError) -> u32 {
+    match error {
+        RunError::Refused(refusal) => refusal.number(),
+        RunError::MalformedEnds => 99,
     }
 }
 
 // Writes the whole run's answer: Plan's, or `refused` and the number.
-fn show(text: &[u8], answer: RunAnswer, buffer: &[u8; 255]) {
-    io::write_all(STDOUT_FILENO, text);
+fn show(t: &[u8], answer: Result<Result<Planned, Refusal>, RunError>, buffer: &[u8]) {
+    text(t);
     match answer {
-        RunAnswer::Ran(plan) => show_plan(plan, buffer),
-        RunAnswer::Refused(k) => {
-            io::write_all(STDOUT_FILENO, b" refused");
-            number(k as u64);
-        }
+        Ok(plan) => show_plan(plan, buffer),
+        Err(error) => say(b" refused", error_number(error)),
     }
-    io::write_all(STDOUT_FILENO, b"\n");
+    text(b"\n");
 }
 
 // Runs streams on an opening, which looks at the rows where it is from a table, and writes the answer.
 fn run_rows(
-    text: &[u8],
+    t: &[u8],
     opening: Opening,
     rows: &[u32],
     bytes: &[u8],
@@ -83,12 +63,12 @@ fn run_rows(
         b,
         &mut buffer,
     );
-    show(text, answer, &buffer);
+    show(t, answer, &buffer);
 }
 
 // The same on an opening without a table.
-fn run(text: &[u8], opening: Opening, bytes: &[u8], ends: &[usize], a: u32, b: u32) {
-    run_rows(text, opening, &[], bytes, ends, a, b);
+fn run(t: &[u8], opening: Opening, bytes: &[u8], ends: &[usize], a: u32, b: u32) {
+    run_rows(t, opening, &[], bytes, ends, a, b);
 }
 
 // A table with gaps: machine 5, the root, has the nodes 1, 3 and 6 and starts at 1; node 3 holds machine 9, with 2 and 5, which starts at 5.
@@ -104,14 +84,14 @@ const GAPS: [u32; 21] = [
 ];
 
 // Streams on that table.
-fn run_gaps(text: &[u8], bytes: &[u8], ends: &[usize], a: u32, b: u32) {
-    run_rows(text, Opening::Table, &GAPS, bytes, ends, a, b);
+fn run_gaps(t: &[u8], bytes: &[u8], ends: &[usize], a: u32, b: u32) {
+    run_rows(t, Opening::Table, &GAPS, bytes, ends, a, b);
 }
 
 // The mast book in one stream, then one in which a command is refused and the rest is skipped, then one that is taken.
-fn mast(text: &[u8], a: u32, b: u32) {
+fn mast(t: &[u8], a: u32, b: u32) {
     run(
-        text,
+        t,
         Opening::Fresh,
         b"\x10\x00\x00\x00\x11\x00\x00\x01\x11\x00\x00\x02\x12\x00\x01\x01\x00\x0A\x11\x01\x00\x0B\x14\x00\x00\x00\x00\x01\x00\x05\x14\x00\x00\x02\x00\x02\x00\x14\x14\x00\x01\x01\x00\x02\x00\x03\x14\x00\x02\x00\x00\x00\x00\x07\x14\x00\x0A\x01\x00\x0A\x00\x01\x14\x00\x0A\x02\x00\x0B\x00\x04\x13\x00\x0A\x15\x00\x01\x01\x15\x00\x0A\x01",
         &[70, 77, 81],
@@ -122,71 +102,53 @@ fn mast(text: &[u8], a: u32, b: u32) {
 
 // Writes the first words of the three lists of a run that was refused.
 fn show_lists(book: u32, sheet: u32, buffer: u8) {
-    io::write_all(STDOUT_FILENO, b"untouched:");
-    number(book::wide(book));
-    number(book::wide(sheet));
-    number(wide(buffer));
-    io::write_all(STDOUT_FILENO, b"\n");
+    text(b"untouched:");
+    number(book);
+    number(sheet);
+    number(buffer);
+    text(b"\n");
 }
 
-// A sheet of one word too many.
-fn long_sheet() {
+// Runs that are refused before the plan's states are looked at, on a sheet and a plan buffer of these lengths; the three lists stay as they were.
+fn run_refused<const SHEET: usize, const BUFFER: usize>(
+    t: &[u8],
+    opening: Opening,
+    rows: &[u32],
+    bytes: &[u8],
+    ends: &[usize],
+    a: u32,
+)
+    requires sheet { (0 < SHEET) × (SHEET < 65536) }
+    requires buffer { (0 < BUFFER) × (BUFFER < 65536) }
+{
     let mut book = [7u32; book::BOOK];
-    let mut sheet = [7u32; sheet::SHEET + 1];
-    let mut buffer = [7u8; 255];
+    let mut sheet = [7u32; SHEET];
+    let mut buffer = [7u8; BUFFER];
     let answer = wholerun::whole_run(
-        Opening::Fresh,
-        &[],
-        &mut book,
-        &mut sheet,
-        b"",
-        &[],
-        0,
-        0,
-        &mut buffer,
-    );
-    show(b"a long sheet:", answer, &buffer);
-    show_lists(book[0], sheet[0], buffer[0]);
-}
-
-// A plan buffer of one byte too few.
-fn short_buffer() {
-    let mut book = [7u32; book::BOOK];
-    let mut sheet = [7u32; sheet::SHEET];
-    let mut buffer = [7u8; 254];
-    let answer = wholerun::whole_run(
-        Opening::Fresh,
-        &[],
-        &mut book,
-        &mut sheet,
-        b"",
-        &[],
-        0,
-        0,
-        &mut buffer,
-    );
-    show(b"a short buffer:", answer, &[0u8; 255]);
-    show_lists(book[0], sheet[0], buffer[0]);
-}
-
-// A table that is refused, before the plan's states are looked at.
-fn refused_table(text: &[u8], rows: &[u32], bytes: &[u8], ends: &[usize]) {
-    let mut book = [7u32; book::BOOK];
-    let mut sheet = [7u32; sheet::SHEET];
-    let mut buffer = [7u8; 255];
-    let answer = wholerun::whole_run(
-        Opening::Table,
+        opening,
         rows,
         &mut book,
         &mut sheet,
         bytes,
         ends,
-        300,
+        a,
         0,
         &mut buffer,
     );
-    show(text, answer, &buffer);
+    show(t, answer, &buffer);
     show_lists(book[0], sheet[0], buffer[0]);
+}
+
+// The lengths of a sheet, of one with a word too many, and of a plan buffer.
+const SHEET: usize = sheet::SHEET;
+
+const LONG: usize = sheet::SHEET + 1;
+
+const BUFFER: usize = 255;
+
+// A table that is refused.
+fn refused_table(t: &[u8], rows: &[u32], bytes: &[u8], ends: &[usize]) {
+    run_refused::<SHEET, BUFFER>(t, Opening::Table, rows, bytes, ends, 300);
 }
 
 // Runs on a table with gaps, and tables that do not open.
@@ -264,7 +226,7 @@ fn main() {
         0,
         0,
     );
-    long_sheet();
-    short_buffer();
+    run_refused::<LONG, BUFFER>(b"a long sheet:", Opening::Fresh, &[], b"", &[], 0);
+    run_refused::<SHEET, 254>(b"a short buffer:", Opening::Fresh, &[], b"", &[], 0);
     tables();
 }

@@ -89,11 +89,6 @@ listing_room {dist} {order} {count} {v} l range far =
     falls w =
         ⊎_elim (λ (e : w ≡ v). omega (arith, ap (put dist v 0) e, put_same dist v 0)) (λ e. omega (arith, put_other dist v 0 w e)) (equal_or_not w v)
 
--- before the first move
-pub grown_none : (dist order : ℕ → ℕ) (count : ℕ) → Grown dist dist order order count count
-grown_none dist order count =
-    record { more = omega arith; kept = λ i h. refl; fresh = λ i from below. absurd (omega arith); all = λ v far near. absurd (omega arith) }
-
 module _ {dist₀ dist dist' order₀ order : ℕ → ℕ} {count₀ count v : ℕ} (g : Grown dist₀ dist order₀ order count₀ count)
     (others : (w : ℕ) → (w ≡ v → ⊥) → dist' w ≡ dist w) where
   -- one move more, to a node that was reached

@@ -30,10 +30,6 @@ put_set words v w h = record { same = get_or-set_same words v w 0 h; other = λ 
 pub put_put : (f : ℕ → ℕ) (v w : ℕ) → Put f (put f v w) v w
 put_put f v w = record { same = put_same f v w; other = λ i e. put_other f v w i e }
 
--- before the first move
-pub relaxed_none : (row : ℕ → Option Arrival) (u : ℕ) (old : Labels) → Relaxed row u 0 old old
-relaxed_none row u old = record { here = refl; met = λ x b h. absurd (omega arith); each = λ v. stays (record { dist = refl; before = refl; by = refl }) }
-
 -- no distance grows
 pub change_less : {row : ℕ → Option Arrival} {u : ℕ} {old new : Labels} {v : ℕ} → Change row u old new v → new.dist v ≤ old.dist v
 change_less (stays same) = omega (arith, same.dist)

@@ -7,7 +7,7 @@ use lib.ListN.{length}
 use Rattle.definitions.specs.Basics.{put}
 use Rattle.definitions.specs.Limits.{nodes, commands}
 use Rattle.search.specs.Search.{unreached, row_move, move_of, Tables, Room, Searched}
-use Rattle.search.specs.Parts.{at, Labels, labels, Blank, BlankedTo, Relaxed, Row, Listing, Grown, Places, Brought}
+use Rattle.search.specs.Parts.{at, Labels, labels, Blank, Relaxed, Row, Listing, Grown, Places, Brought}
 use Rattle.search.proofs.Reading.{row_words, move_row, move_some}
 use Rattle.search.proofs.Stores.{put_put}
 use Rattle.search.proofs.Listing.{few}
@@ -125,17 +125,3 @@ module _ {k s : ℕ} {target price : List ℕ} (tables : Tables k s target price
           reached = omega (arith, ap (at dist') same, pick.reached);
           nearer = omega (arith, ap (at dist') same, pick.least v h waits);
         })
-
--- a search in lists that were filled before
-pub filled_searched : {k s goal : ℕ} {target price : List ℕ} (dist before by mid_dist mid_before mid_by : List ℕ) {dist' before' by' : List ℕ}
-    → BlankedTo k s (labels dist before by) (labels mid_dist mid_before mid_by) → Searched k s goal target price mid_dist mid_before mid_by dist' before' by'
-    → Searched k s goal target price dist before by dist' before' by'
-filled_searched dist before by mid_dist mid_before mid_by fill found =
-    record {
-      certificate = found.certificate;
-      rest =
-          λ v h.
-          let first = fill.rest v h in
-          let (p, q, r) = found.rest v h in
-          (p ∙ first.dist, q ∙ first.before, r ∙ first.by);
-    }

@@ -38,12 +38,10 @@ fn fill(k: usize, source: usize, dist: &mut [u64], before: &mut [u32], by: &mut 
     ensures { BlankedTo k source (labels dist.old before.old by.old)
         (labels dist.new before.new by.new) }
 {
-    let mut v = 0usize;
-    while v < k {
+    for v in 0..k {
         dist[v] = UNREACHED;
         before[v] = ABSENT;
         by[v] = ABSENT;
-        v += 1;
     }
     dist[source] = 0;
 }
@@ -63,14 +61,12 @@ fn pick(order: &[u32], n: usize, count: usize, dist: &[u64]) -> usize
 {
     let mut best = n;
     let mut least = distance(order, dist, n);
-    let mut i = n + 1;
-    while i < count {
+    for i in n + 1..count {
         let d = distance(order, dist, i);
         if d < least {
             best = i;
             least = d;
         }
-        i += 1;
     }
     best
 }
@@ -136,8 +132,7 @@ fn relax_all(
 {
     let here = dist[u];
     let mut listed = count;
-    let mut x = 0usize;
-    while x < 16 {
+    for x in 0..16 {
         let i = 16 * u + x;
         let t = word(target, i);
         let v = if t == ABSENT { u as u32 } else { t };
@@ -151,7 +146,6 @@ fn relax_all(
             before,
             by,
         );
-        x += 1;
     }
     listed
 }
@@ -176,6 +170,7 @@ fn settle(
     let mut order = [source as u32; 256];
     let mut count = 1usize;
     let mut n = 0usize;
+    // No `for`: each turn may list more nodes, so that count grows while they are settled.
     while n < count {
         let u = bring(&mut order, n, count, dist);
         if u == goal {

@@ -1,13 +1,12 @@
 // Sessions on stored inputs, run: each kind of line that a session prints, and whether it goes on after it.
 #![tactic(auto)]
 
-// The descriptor of standard output.
-const STDOUT_FILENO: i32 = 1;
+use trying::{MAST, text};
 
 // Writes a text, then the lines of a session on an input.
-fn show(text: &[u8], input: &[u8]) {
-    io::write_all(STDOUT_FILENO, text);
-    io::write_all(STDOUT_FILENO, b"\n");
+fn show(t: &[u8], input: &[u8]) {
+    text(t);
+    text(b"\n");
     let mut book = [0u32; book::BOOK];
     let mut sheet = [0u32; sheet::SHEET];
     printing::print_session(&mut book, &mut sheet, input);
@@ -15,67 +14,34 @@ fn show(text: &[u8], input: &[u8]) {
 
 // Stores bytes from a place on, as far as there is room; the next place.
 fn put(list: &mut [u8], at: usize, bytes: &[u8]) -> usize {
-    let mut p = at;
-    let mut i = 0usize;
-    while i < bytes.len() {
-        if list.len() <= p {
-            return p;
-        }
-        list[p] = bytes[i];
-        p += 1;
-        i += 1;
+    for (place, byte) in list.iter_mut().skip(at).zip(bytes) {
+        *place = *byte;
     }
-    p
+    list.len().min(at.saturating_add(bytes.len()))
 }
 
 // The same as show, for the mast book and bytes after it.
-fn show_mast(text: &[u8], list: &mut [u8], bytes: &[u8]) {
-    let mast = put(
-        list,
-        0,
-        b"\x10\x00\x00\x00\x11\x00\x00\x01\x11\x00\x00\x02\x12\x00\x01\x01\x00\x0A\x11\x01\x00\x0B\x14\x00\x00\x00\x00\x01\x00\x05\x14\x00\x00\x02\x00\x02\x00\x14\x14\x00\x01\x01\x00\x02\x00\x03\x14\x00\x02\x00\x00\x00\x00\x07\x14\x00\x0A\x01\x00\x0A\x00\x01\x14\x00\x0A\x02\x00\x0B\x00\x04",
-    );
+fn show_mast(t: &[u8], list: &mut [u8], bytes: &[u8]) {
+    let mast = put(list, 0, &MAST);
     let end = put(list, mast, bytes);
     if end <= list.len() {
-        show(text, &list[..end]);
-    }
-}
-
-// Stores a byte, where there is a place for it.
-fn put_at(list: &mut [u8], at: usize, byte: u8) {
-    if at < list.len() {
-        list[at] = byte;
+        show(t, &list[..end]);
     }
 }
 
 // Arrows to the place 65,528. Their operands are all 0.
 fn fill_long(list: &mut [u8]) {
-    let mut i = 0usize;
-    while i < 65528 {
-        put_at(list, i, 0x14);
-        i += 8;
+    for opcode in list.iter_mut().take(65528).step_by(8) {
+        *opcode = 0x14;
     }
 }
 
-// The session for an input over the limit: arrows, a refresh, a plan, and at 65,534 a plan that the end of what is read cuts short.
-fn show_cut(text: &[u8]) {
+// The session for an input over the limit: arrows, and behind them the last bytes that are read.
+fn show_long(t: &[u8], last: &[u8; 8]) {
     let mut list = [0u8; 65600];
     fill_long(&mut list);
-    put_at(&mut list, 65528, 0x18);
-    put_at(&mut list, 65529, 0x19);
-    put_at(&mut list, 65534, 0x19);
-    show(text, &list);
-}
-
-// The same where the last byte that is read ends a plan, and the next would be an unknown opcode.
-fn show_whole(text: &[u8]) {
-    let mut list = [0u8; 65600];
-    fill_long(&mut list);
-    put_at(&mut list, 65528, 0x18);
-    put_at(&mut list, 65529, 0x18);
-    put_at(&mut list, 65530, 0x18);
-    put_at(&mut list, 65531, 0x19);
-    show(text, &list);
+    put(&mut list, 65528, last);
+    show(t, &list);
 }
 
 fn main() {
@@ -123,6 +89,14 @@ fn main() {
         &mut list,
         b"\x18\x19\x00\x00\x00\x02\x13\x00\x0A\x19\x00\x00\x00\x02",
     );
-    show_cut(b"more than 65,536 bytes:");
-    show_whole(b"a plan that ends with the 65,536th byte:");
+    // A refresh, a plan, and at 65,534 a plan that the end of what is read cuts short.
+    show_long(
+        b"more than 65,536 bytes:",
+        b"\x18\x19\x00\x00\x00\x00\x19\x00",
+    );
+    // The last byte that is read ends a plan, and the next would be an unknown opcode.
+    show_long(
+        b"a plan that ends with the 65,536th byte:",
+        b"\x18\x18\x18\x19\x00\x00\x00\x00",
+    );
 }

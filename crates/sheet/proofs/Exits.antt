@@ -14,18 +14,19 @@ use Rattle.definitions.specs.Truth.{node_exit}
 use Rattle.definitions.proofs.Options.{none_some, some_same}
 use Rattle.definitions.proofs.Words.{present_word, below_range, no_below}
 use Rattle.definitions.proofs.Local.{exit_plain, exit_refined}
-use Rattle.sheet.specs.declared.OwnExit.{OwnExit}
-use Rattle.sheet.specs.declared.OwnExit.TheVariants.{Costs, Never}
-use Rattle.sheet.specs.Exits.{exit_of, exit_limit, Exits}
+use Rattle.std.proofs.Common.{Some, None}
+use Rattle.std.proofs.Common as core
+use Rattle.sheet.specs.Exits.{exit_limit, Exits}
+use Rattle.refusals.specs.Meaning.{value_of}
 use Rattle.sheet.proofs.Reading.{ReadRows, cost_said, cost_unsaid}
 
 -- ---- what the answer says
 
-pub exits_none : {o : Option ℕ} {a : OwnExit} → Exits o a → a ≡ Never → o ≡ none
-exits_none e never = sym e.is ∙ ap exit_of never
+pub exits_none : {o : Option ℕ} {a : core.Option ℕ} → Exits o a → a ≡ None → o ≡ none
+exits_none e never = sym e.is ∙ ap value_of never
 
-pub exits_some : {o : Option ℕ} {a : OwnExit} {c : ℕ} → Exits o a → a ≡ Costs c → (o ≡ some c) × (c < exit_limit)
-exits_some {c = c} e costs = (sym e.is ∙ ap exit_of costs, e.small c (ap exit_of costs))
+pub exits_some : {o : Option ℕ} {a : core.Option ℕ} {c : ℕ} → Exits o a → a ≡ Some c → (o ≡ some c) × (c < exit_limit)
+exits_some {c = c} e costs = (sym e.is ∙ ap value_of costs, e.small c (ap value_of costs))
 
 -- ---- how it is found
 
@@ -36,7 +37,7 @@ exit_never t r n x bel e = rw (bel, e)
 
 module _ {t : Tree} (s : Sound t) {r : Rows} (read : ReadRows r) (n x : ℕ) {b : ℕ} (below : b ≡ word (t.below n)) where
   -- a plain node is left at no cost
-  pub exits_plain : b ≡ absent → {w l : ℕ} → w ≡ 0 → l ≡ cond (eqb b absent) 0 (t.leave (b % machines)) → Exits (node_exit t r n x) (Costs (w + l))
+  pub exits_plain : b ≡ absent → {w l : ℕ} → w ≡ 0 → l ≡ cond (eqb b absent) 0 (t.leave (b % machines)) → Exits (node_exit t r n x) (Some (w + l))
   exits_plain z {w} {l} free left =
       let none_left : l ≡ 0 = left ∙ rw (eq-eqb b absent z) in
       let cost : w + l ≡ 0 = omega arith in
@@ -53,13 +54,13 @@ module _ {t : Tree} (s : Sound t) {r : Rows} (read : ReadRows r) (n x : ℕ) {b 
     below_exit : e ≡ cost_word (r.exit b x)
     below_exit = rw machine at exit
 
-    pub exits_never : e ≡ blank → Exits (node_exit t r n x) Never
+    pub exits_never : e ≡ blank → Exits (node_exit t r n x) None
     exits_never z =
         let free : r.exit b x ≡ none = cost_unsaid (r.exit b x) (read.exit b x) below_exit z in
         record { is = sym (exit_never t r n x holds free); small = λ e f. absurd (none_some refl f) }
 
     pub exits_costs : (e ≡ blank → ⊥) → {w l : ℕ} → w ≡ e → w ≤ blank → l ≡ cond (eqb b absent) 0 (t.leave (b % machines))
-        → Exits (node_exit t r n x) (Costs (w + l))
+        → Exits (node_exit t r n x) (Some (w + l))
     exits_costs there {w} {l} same small left =
         let exit : node_exit t r n x ≡ some (e + t.leave b) = exit_refined t r n x holds (cost_said (r.exit b x) below_exit there) in
         let there_left : l ≡ t.leave b = left ∙ rw (ne_eqb b absent other, machine) in

@@ -18,7 +18,7 @@ use Rattle.definitions.specs.Sheet.{cost_word, cost_of, rows_of}
 use Rattle.definitions.proofs.Words.{same_rows, under_in, word_number, word_cost, rows_of_machine}
 use Rattle.definitions.proofs.Options.{equal_or_not}
 use Rattle.book.proofs.Places.{kept, kept_grid, Apart, place_same, stored, unstored, field_put, field_kept, grid_put, grid_kept}
-use Rattle.book.proofs.Places.{cleared_to, cleared_none, cleared_more, cleared_all, grid_past}
+use Rattle.book.proofs.Places.{cleared_to, cleared_more, cleared_all, grid_past}
 use Rattle.book.proofs.Chosen.{unless_both}
 use Rattle.sheet.specs.Fields.{IsMark, Marks, Mark, Leaves, with_mark, with_exits, with_exit, with_last, with_node_row, with_blank_machine, with_blank_nodes}
 
@@ -271,15 +271,6 @@ blank_both r a b =
 -- a sheet's rows with machine m's row blank below command x
 abbrev pub blanked_to : List ℕ → ℕ → ℕ → Rows
 blanked_to ws m x = with_exits (rows_of ws) (cleared_to (rows_of ws).exit m x) (cleared_to (rows_of ws).last m x)
-
--- at first, after one command more, and after the last command
-pub blanking_none : (ws : List ℕ) (m : ℕ) → length ws ≡ sheet_length → Leaves ws ws (blanked_to ws m 0)
-blanking_none ws m l =
-    record {
-      length = l;
-      marks = λ marks. marks;
-      rows = ap₂ (with_exits (rows_of ws)) (sym (cleared_none (rows_of ws).exit m)) (sym (cleared_none (rows_of ws).last m));
-    }
 
 pub blanking_more : (ws : List ℕ) (m x : ℕ) {a b c : List ℕ} → Leaves ws a (blanked_to ws m x) → Leaves a b (with_exit (rows_of a) m x none)
     → Leaves b c (with_last (rows_of b) m x none) → Leaves ws c (blanked_to ws m (x + 1))

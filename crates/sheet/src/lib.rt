@@ -15,13 +15,6 @@ ghost use Rattle.sheet.specs.Fields.{with_blank_machine, with_blank_node};
 // The words of a sheet.
 pub const SHEET: usize = 2880;
 
-// A node's own exit cost for a command, or that no list leaves it by that command.
-#[derive(Drop)]
-pub enum OwnExit {
-    Costs(u64),
-    Never,
-}
-
 // The word at place k of machine m's row.
 fn machine_row_word(sheet: &[u32], m: u32, k: u32) -> u32
     requires { (length sheet.now ≡ sheet_length) × (m < machines) × (k < machine_row_length) }
@@ -99,7 +92,7 @@ fn left_at(book: &[u32], b: u32) -> u32
 
 // The own exit cost of node n for command x: 0 for a plain node, and for a refined one what the sheet says of the machine below it and what leaving
 // that machine costs. Whether n is plain cannot be foreseen: a word is read in either case, so that no jump is needed.
-pub fn own_exit(book: &[u32], sheet: &[u32], n: u32, x: u32) -> OwnExit
+pub fn own_exit(book: &[u32], sheet: &[u32], n: u32, x: u32) -> Option<u64>
     requires { Readable book.now sheet.now × (n < nodes) × (x < commands) }
     ensures { Exits (node_exit (tree_of book.now) (rows_of sheet.now) n x) result }
 {
@@ -108,10 +101,10 @@ pub fn own_exit(book: &[u32], sheet: &[u32], n: u32, x: u32) -> OwnExit
     let left = left_at(book, b);
     let own = if b == book::ABSENT { 0 } else { e };
     if own == book::BLANK {
-        return OwnExit::Never;
+        return None;
     }
-    let cost = book::wide(own) + book::wide(left);
-    OwnExit::Costs(cost)
+    let cost = u64::from(own) + u64::from(left);
+    Some(cost)
 }
 
 // Makes v the word at place k of machine m's row; every other word stays.
@@ -145,10 +138,8 @@ pub fn clear_marks(sheet: &mut [u32])
     requires { length sheet.old ≡ sheet_length }
     ensures { Marks sheet.new }
 {
-    let mut m = 0u32;
-    while m < book::MACHINES {
+    for m in 0..book::MACHINES {
         set_machine_row_word(sheet, m, 0, 0);
-        m += 1;
     }
 }
 
@@ -197,11 +188,9 @@ pub fn blank_machine_row(sheet: &mut [u32], m: u32)
     requires { (length sheet.old ≡ sheet_length) × (m < machines) }
     ensures { Leaves sheet.old sheet.new (with_blank_machine (rows_of sheet.old) m) }
 {
-    let mut x = 0u32;
-    while x < book::COMMANDS {
+    for x in 0..book::COMMANDS {
         set_exit(sheet, m, x, book::BLANK);
         set_last(sheet, m, x, book::ABSENT);
-        x += 1;
     }
 }
 

@@ -1,6 +1,6 @@
 -- Whether a node is within another, one node up at a time. Assumes nothing.
-use mathlib.Core.Path.{◌≡◌, refl, sym, ap, ◌∙◌}
-use mathlib.Core.Bool.{Bool, true, false, cond, not, or-false}
+use mathlib.Core.Path.{◌≡◌, sym, ap, ◌∙◌}
+use mathlib.Core.Bool.{true, false, or-false}
 use mathlib.Core.Option.{none, some}
 use mathlib.Core.List.{List}
 use Prim.Native.Nat.{ℕ, ◌<◌}
@@ -14,22 +14,6 @@ use Rattle.definitions.specs.Book.{word, tree_of, WellFormed}
 use Rattle.definitions.proofs.Path.{level_on}
 use Rattle.definitions.proofs.Words.{present_word, no_owner, no_holder, owner_range, holder_range}
 use Rattle.definitions.proofs.Commands.{within_self, within_top, within_up}
-
--- 1 where a test holds, else 0
-abbrev one : Bool → ℕ
-one b = cond b 1 0
-
-flag : {b c : Bool} → b ≡ c → one c ≡ one b
-flag e = ap one (sym e)
-
--- asked whether it is 1, and whether it is 0
-pub flag_one : (b : Bool) {r : ℕ} → r ≡ one b → eqb r 1 ≡ b
-flag_one true e = rw e refl
-flag_one false e = rw e refl
-
-pub flag_zero : (b : Bool) {r : ℕ} → r ≡ one b → eqb r 0 ≡ not b
-flag_zero true e = rw e refl
-flag_zero false e = rw e refl
 
 -- a node that is not in use is within itself alone
 pub within_unused : (t : Tree) (n : ℕ) {d : ℕ} → t.owner d ≡ none → within t n d ≡ eqb n d
@@ -46,16 +30,16 @@ pub record Up (t : Tree) (n d k h : ℕ) : Type 0 where
 
 module _ (ws : List ℕ) (w : WellFormed ws) (n d : ℕ) {k : ℕ} (same : within (tree_of ws) n d ≡ within (tree_of ws) n k) where
   -- the node itself is met
-  pub met : k ≡ n → 1 ≡ one (within (tree_of ws) n d)
-  met e = flag (same ∙ ap (within (tree_of ws) n) e ∙ within_self (tree_of ws) n)
+  pub met : k ≡ n → true ≡ within (tree_of ws) n d
+  met e = sym (same ∙ ap (within (tree_of ws) n) e ∙ within_self (tree_of ws) n)
 
   module _ (other : k ≡ n → ⊥) {o : ℕ} (owner : o ≡ word ((tree_of ws).owner k)) where
     away : eqb n k ≡ false
     away = ne_eqb n k (λ e. other (sym e))
 
     -- a node that is not in use
-    pub unused_told : o ≡ absent → 0 ≡ one (within (tree_of ws) n d)
-    unused_told none_owns = flag (same ∙ within_unused (tree_of ws) n (no_owner (tree_of ws) w.sound k owner none_owns) ∙ away)
+    pub unused_told : o ≡ absent → false ≡ within (tree_of ws) n d
+    unused_told none_owns = sym (same ∙ within_unused (tree_of ws) n (no_owner (tree_of ws) w.sound k owner none_owns) ∙ away)
 
     module _ (used : o ≡ absent → ⊥) where
       own : (tree_of ws).owner k ≡ some o
@@ -66,8 +50,8 @@ module _ (ws : List ℕ) (w : WellFormed ws) (n d : ℕ) {k : ℕ} (same : withi
 
       module _ {h : ℕ} (holder : h ≡ word ((tree_of ws).holder o)) where
         -- a node of the root
-        pub top_told : h ≡ absent → 0 ≡ one (within (tree_of ws) n d)
-        top_told free = flag (same ∙ within_top (tree_of ws) n own (no_holder (tree_of ws) w.sound o holder free) ∙ away)
+        pub top_told : h ≡ absent → false ≡ within (tree_of ws) n d
+        top_told free = sym (same ∙ within_top (tree_of ws) n own (no_holder (tree_of ws) w.sound o holder free) ∙ away)
 
         -- on from the node that holds its machine
         pub up_told : (h ≡ absent → ⊥) → Up (tree_of ws) n d k h

@@ -10,12 +10,15 @@ use borrow.Author.Tests.{eq-eqb, ne_eqb}
 use Rattle.definitions.specs.Limits.{nodes, absent}
 use Rattle.definitions.specs.Tree.{Tree, UsedNode, is_state, Sound}
 use Rattle.definitions.specs.Book.{word, tree_of, WellFormed}
-use Rattle.definitions.specs.Answer.{Refusal, InOrder}
+use Rattle.definitions.specs.Answer.{InOrder}
+use Rattle.definitions.specs.Answer as asked
 use Rattle.definitions.specs.Calls.{state_refusals}
 use Rattle.definitions.proofs.Options.{equal_or_not}
 use Rattle.definitions.proofs.Words.{present_word, no_owner, no_below}
-use Rattle.definitions.proofs.Answers.{judged_met, judged_passed}
-use Rattle.stepping.specs.Meaning.{StatesJudged}
+use Rattle.std.proofs.Common.{Result, Ok, Err}
+use Rattle.refusals.specs.Meaning.{Judged}
+use Rattle.refusals.specs.declared.Refusal.{Refusal}
+use Rattle.refusals.proofs.Judging.{judged_ok}
 
 -- an unused node is no state; a node in use is one where it holds no machine
 module _ {t : Tree} (s : Sound t) (n : ℕ) {o : ℕ} (own : o ≡ word (t.owner n)) where
@@ -33,38 +36,31 @@ pub record BothStates (t : Tree) (a b : ℕ) : Type 0 where
   pub used : UsedNode t a × UsedNode t b
   pub plain : (t.below a ≡ none) × (t.below b ≡ none)
 
--- a number that is not 0 is a refusal, whatever would come after
-pub states_met : (t : Tree) (a b r : ℕ) → StatesJudged t a b r → (r ≡ 0 → ⊥) → (rest : List Refusal) (Refused : ℕ → Type 0) (Done : Type 0)
-    → Refused r → InOrder (state_refusals t a b rest) Refused Done
-states_met t a b r judged nonzero = judged_met (state_refusals t a b []) judged nonzero
-
--- 0: both are states in use
-pub both_states : (t : Tree) (a b r : ℕ) → StatesJudged t a b r → r ≡ 0 → BothStates t a b
-both_states t a b r judged zero_r =
-    let (range, (used, (plain, done))) = judged_passed (state_refusals t a b []) judged refl zero_r in
+-- judged and not refused: both are states in use
+pub both_states : (t : Tree) (a b : ℕ) {r : Result Unit Refusal} → Judged (state_refusals t a b []) r → r ≡ Ok tt → BothStates t a b
+both_states t a b judged ok =
+    let (range, (used, (plain, done))) = judged_ok (state_refusals t a b []) judged ok refl in
     record { range = range; used = used; plain = plain }
 
 -- past the refusals of two states
-pub states_past : {t : Tree} {a b : ℕ} → BothStates t a b → (rest : List Refusal) (Refused : ℕ → Type 0) (Done : Type 0)
+pub states_past : {t : Tree} {a b : ℕ} → BothStates t a b → (rest : List asked.Refusal) (Refused : ℕ → Type 0) (Done : Type 0)
     → InOrder rest Refused Done → InOrder (state_refusals t a b rest) Refused Done
 states_past s rest Refused Done i = inr (s.range, inr (s.used, inr (s.plain, i)))
 
--- ---- the number, from what the words say
+-- ---- what is judged, from what the words say
 
-module _ (ws : List ℕ) (w : WellFormed ws) (a b : ℕ) where
-  pub judged_range : ((a < nodes) × (b < nodes) → ⊥) → StatesJudged (tree_of ws) a b 6
-  judged_range out = inl (out, refl)
+module _ (ws : List ℕ) (w : WellFormed ws) (a b : ℕ) (range : (a < nodes) × (b < nodes)) where
+  pub judged_unused : ((tree_of ws).owner a ≡ none) ⊎ ((tree_of ws).owner b ≡ none)
+      → Judged {A = Unit} (state_refusals (tree_of ws) a b []) (Err Refusal.NotInUse)
+  judged_unused unused = inr (range, inl (unused, refl))
 
-  module _ (range : (a < nodes) × (b < nodes)) where
-    pub judged_unused : ((tree_of ws).owner a ≡ none) ⊎ ((tree_of ws).owner b ≡ none) → StatesJudged (tree_of ws) a b 7
-    judged_unused unused = inr (range, inl (unused, refl))
+  module _ {p q : ℕ} (own_a : p ≡ word ((tree_of ws).owner a)) (p_present : p ≡ absent → ⊥) (own_b : q ≡ word ((tree_of ws).owner b)) (q_present : q ≡ absent → ⊥) where
+    both_used : UsedNode (tree_of ws) a × UsedNode (tree_of ws) b
+    both_used = ((p, present_word ((tree_of ws).owner a) own_a p_present), (q, present_word ((tree_of ws).owner b) own_b q_present))
 
-    module _ {p q : ℕ} (own_a : p ≡ word ((tree_of ws).owner a)) (p_present : p ≡ absent → ⊥) (own_b : q ≡ word ((tree_of ws).owner b)) (q_present : q ≡ absent → ⊥) where
-      both_used : UsedNode (tree_of ws) a × UsedNode (tree_of ws) b
-      both_used = ((p, present_word ((tree_of ws).owner a) own_a p_present), (q, present_word ((tree_of ws).owner b) own_b q_present))
+    pub judged_refined : (((tree_of ws).below a ≡ none) × ((tree_of ws).below b ≡ none) → ⊥)
+        → Judged {A = Unit} (state_refusals (tree_of ws) a b []) (Err Refusal.NotPlain)
+    judged_refined refined = inr (range, inr (both_used, inl (refined, refl)))
 
-      pub judged_refined : (((tree_of ws).below a ≡ none) × ((tree_of ws).below b ≡ none) → ⊥) → StatesJudged (tree_of ws) a b 14
-      judged_refined refined = inr (range, inr (both_used, inl (refined, refl)))
-
-      pub judged_states : ((tree_of ws).below a ≡ none) × ((tree_of ws).below b ≡ none) → StatesJudged (tree_of ws) a b 0
-      judged_states plain = inr (range, inr (both_used, inr (plain, refl)))
+    pub judged_states : ((tree_of ws).below a ≡ none) × ((tree_of ws).below b ≡ none) → Judged (state_refusals (tree_of ws) a b []) (Ok (tt {0}))
+    judged_states plain = inr (range, inr (both_used, inr (plain, refl)))

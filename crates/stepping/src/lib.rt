@@ -1,31 +1,36 @@
 // One command at a state of a well-formed book (document 01, "The tree and its step").
 #![tactic(auto)]
 
-ghost use Rattle.std.specs.Prelude.{◌≡◌, cond, ◌<◌};
+ghost use Rattle.std.specs.Prelude.{◌≡◌, [], ◌<◌};
 ghost use Rattle.std.proofs.Math.Option.{none, some};
 ghost use Rattle.definitions.specs.Limits.{nodes, commands};
 ghost use Rattle.definitions.specs.Tree.{UsedNode, is_state, level, within};
 ghost use Rattle.definitions.specs.Book.{tree_of, WellFormed};
 ghost use Rattle.definitions.specs.Step.{enter, climb};
-ghost use Rattle.definitions.specs.Calls.{StepSays};
-ghost use Rattle.stepping.specs.Meaning.{ClimbSays, StatesJudged, answer_of};
+ghost use Rattle.definitions.specs.Calls.{StepSays, state_refusals};
+ghost use Rattle.refusals.specs.Meaning.{Judged};
+ghost use Rattle.stepping.specs.Meaning.{ClimbSays, answer_of};
 
-// Where a command finds a transition: the node that has it, its target and its cost, with that of leaving the machines below; or that it finds none.
-#[derive(Drop)]
-pub enum Climbed {
-    Found { node: u32, target: u32, cost: u32 },
-    Passed,
+use refusals::Refusal;
+
+// Where a command finds a transition: the node that has it, its target and its cost, with that of leaving the machines below.
+#[derive(Clone, Copy)]
+struct Found {
+    node: u32,
+    target: u32,
+    cost: u32,
 }
 
-// Step's answer: the state, the cost and the node whose transition was used, or a refusal's number.
-#[derive(Drop)]
-pub enum StepAnswer {
-    Moved { state: u32, cost: u32, node: u32 },
-    Refused(u32),
+// What a step gives: the state, the cost and the node whose transition was used.
+#[derive(Clone, Copy, Debug, PartialEq, Eq)]
+pub struct Moved {
+    pub state: u32,
+    pub cost: u32,
+    pub node: u32,
 }
 
-// The lowest node, s itself first and then the nodes that hold it, that has a transition for x which counts.
-fn climb(book: &[u32], s: u32, x: u32) -> Climbed
+// The lowest node, s itself first and then the nodes that hold it, that has a transition for x which counts, if there is one.
+fn climb(book: &[u32], s: u32, x: u32) -> Option<Found>
     requires { WellFormed book.now × UsedNode (tree_of book.now) s × (x < commands) }
     ensures { ClimbSays result (climb (tree_of book.now) (tree_of book.now).root s x) }
 {
@@ -37,14 +42,14 @@ fn climb(book: &[u32], s: u32, x: u32) -> Climbed
         let h = book::holder(book, m);
         if w != book::BLANK {
             let cost = left + w % 65536;
-            return Climbed::Found {
+            return Some(Found {
                 node: n,
                 target: w / 65536,
                 cost,
-            };
+            });
         }
         if h == book::ABSENT {
-            return Climbed::Passed;
+            return None;
         }
         left += book::leave(book, m);
         n = h;
@@ -83,23 +88,23 @@ pub fn level(book: &[u32], n: u32) -> u32
     }
 }
 
-// 1 where node d is node n or below it, else 0.
-pub fn within(book: &[u32], n: u32, d: u32) -> u32
+// Whether node d is node n or below it.
+pub fn within(book: &[u32], n: u32, d: u32) -> bool
     requires { WellFormed book.now × (d < nodes) }
-    ensures { result ≡ cond (within (tree_of book.now) n d) 1 0 }
+    ensures { result ≡ within (tree_of book.now) n d }
 {
     let mut k = d;
     loop {
         if k == n {
-            return 1;
+            return true;
         }
         let m = book::owner(book, k);
         if m == book::ABSENT {
-            return 0;
+            return false;
         }
         let h = book::holder(book, m);
         if h == book::ABSENT {
-            return 0;
+            return false;
         }
         k = h;
     }
@@ -107,18 +112,18 @@ pub fn within(book: &[u32], n: u32, d: u32) -> u32
 
 // Step at a state of a book that is known to be well formed, where 17 alone is left to refuse. Step ends in it, and Choose and a walker call it
 // for each command.
-pub fn step_from(book: &[u32], s: u32, x: u32) -> StepAnswer
+pub fn step_from(book: &[u32], s: u32, x: u32) -> Result<Moved, Refusal>
     requires { WellFormed book.now × UsedNode (tree_of book.now) s × ((tree_of book.now).below s ≡ none) × (x < commands) }
     ensures { StepSays book.now s x (answer_of result) }
 {
-    match climb(book, s, x) {
-        Climbed::Found { node, target, cost } => StepAnswer::Moved {
-            state: enter(book, target),
-            cost,
-            node,
-        },
-        Climbed::Passed => StepAnswer::Refused(17),
-    }
+    let Some(Found { node, target, cost }) = climb(book, s, x) else {
+        return Err(Refusal::Stops);
+    };
+    Ok(Moved {
+        state: enter(book, target),
+        cost,
+        node,
+    })
 }
 
 // Whether node n is a state.
@@ -132,54 +137,49 @@ pub fn is_state(book: &[u32], n: u32) -> bool
     book::below(book, n) == book::ABSENT
 }
 
-// The refusal of two numbers that are to be states, 0 where there is none: 6 (out of range), 7 (not in use), 14 (not plain).
-pub fn judge_states(book: &[u32], a: u32, b: u32) -> u32
+// The refusals of two numbers that are to be states: 6 (out of range), 7 (not in use), 14 (not plain).
+pub fn judge_states(book: &[u32], a: u32, b: u32) -> Result<(), Refusal>
     requires { WellFormed book.now }
-    ensures { StatesJudged (tree_of book.now) a b result }
+    ensures { Judged (state_refusals (tree_of book.now) a b []) result }
 {
     if book::NODES <= a {
-        return 6;
+        return Err(Refusal::OutOfRange);
     }
     if book::NODES <= b {
-        return 6;
+        return Err(Refusal::OutOfRange);
     }
     if book::owner(book, a) == book::ABSENT {
-        return 7;
+        return Err(Refusal::NotInUse);
     }
     if book::owner(book, b) == book::ABSENT {
-        return 7;
+        return Err(Refusal::NotInUse);
     }
     if book::below(book, a) != book::ABSENT {
-        return 14;
+        return Err(Refusal::NotPlain);
     }
     if book::below(book, b) != book::ABSENT {
-        return 14;
+        return Err(Refusal::NotPlain);
     }
-    0
+    Ok(())
 }
 
 // Step: the state that a command leads to from a state, its cost, and the node whose transition was used. It reads only the book. It refuses
 // 1 (a wrong length), 2 (book not well formed), 6 (number out of range), 7 (node not in use), 14 (node not plain), 17 (the station stops).
-pub fn step(book: &[u32], state: u32, command: u32) -> StepAnswer
+pub fn step(book: &[u32], state: u32, command: u32) -> Result<Moved, Refusal>
     ensures { StepSays book.now state command (answer_of result) }
 {
-    if book.len() != book::BOOK {
-        return StepAnswer::Refused(1);
-    }
-    if !wellformed::well_formed(book) {
-        return StepAnswer::Refused(2);
-    }
+    wellformed::judge(book)?;
     if book::NODES <= state {
-        return StepAnswer::Refused(6);
+        return Err(Refusal::OutOfRange);
     }
     if book::COMMANDS <= command {
-        return StepAnswer::Refused(6);
+        return Err(Refusal::OutOfRange);
     }
     if book::owner(book, state) == book::ABSENT {
-        return StepAnswer::Refused(7);
+        return Err(Refusal::NotInUse);
     }
     if book::below(book, state) != book::ABSENT {
-        return StepAnswer::Refused(14);
+        return Err(Refusal::NotPlain);
     }
     step_from(book, state, command)
 }

@@ -3,11 +3,8 @@
 // machine below and 1 for a start; 65535 is "none".
 #![tactic(auto)]
 
-use ladders::LadderAnswer;
-use planning::PlanAnswer;
-
-// The descriptor of standard output.
-const STDOUT_FILENO: i32 = 1;
+use planning::Planned;
+use trying::{front, front_mut, number, say_no, show_words, status, text};
 
 // A book and a sheet.
 type Book = [u32; book::BOOK];
@@ -20,72 +17,41 @@ type Rows = [u32; 570];
 // What stands in a list before a call: no call here writes it.
 const BEFORE: u32 = 77777;
 
-// Writes a space and a number.
-fn number(n: u32) {
-    io::write_all(STDOUT_FILENO, b" ");
-    io::print_decimal(STDOUT_FILENO, n as u64);
-}
-
-// Writes `no` and the number of a refusal.
-fn refusal(k: u32) {
-    io::write_all(STDOUT_FILENO, b" no");
-    number(k);
-}
-
 // How many words of a list, from a place on, are not as before the call.
-fn changed(list: &[u32], from: usize) -> u32 {
-    let mut count = 0u32;
-    let mut i = from;
-    while i < list.len() {
-        if list[i] != BEFORE {
-            count = count % 100000 + 1;
-        }
-        i += 1;
-    }
-    count
+fn changed(list: &[u32], from: usize) -> u64 {
+    list.iter()
+        .skip(from)
+        .filter(|word| **word != BEFORE)
+        .count() as u64
 }
 
 // How many words two lists have different, as far as both go.
-fn different(one: &[u32], other: &[u32]) -> u32 {
-    let mut count = 0u32;
-    let mut i = 0usize;
-    while i < one.len() {
-        if i >= other.len() {
-            return count;
-        }
-        if one[i] != other[i] {
-            count = count % 100000 + 1;
-        }
-        i += 1;
-    }
-    count
+fn different(one: &[u32], other: &[u32]) -> u64 {
+    one.iter().zip(other).filter(|(a, b)| a != b).count() as u64
 }
 
 // Has the generator write into the front of a list, and gives where its words end; 0 where it refuses. It says how many there are, or the refusal.
 fn write_front(depth: u32, out: &mut [u32], room: usize) -> usize {
-    if out.len() < room {
-        return 0;
-    }
-    match ladders::ladder(depth, &mut out[..room]) {
-        LadderAnswer::Written(n) => {
+    match ladders::ladder(depth, front_mut(out, room)) {
+        Ok(n) => {
             number(n);
             n as usize
         }
-        LadderAnswer::Refused(k) => {
-            refusal(k);
+        Err(refusal) => {
+            say_no(refusal);
             0
         }
     }
 }
 
 // The generator with so much room in a longer list, and how many words of the list changed after those that it wrote.
-fn show_ladder(text: &[u8], depth: u32, room: usize) {
+fn show_ladder(t: &[u8], depth: u32, room: usize) {
     let mut out = [BEFORE; 570];
-    io::write_all(STDOUT_FILENO, text);
+    text(t);
     let end = write_front(depth, &mut out, room);
-    io::write_all(STDOUT_FILENO, b", changed after");
+    text(b", changed after");
     number(changed(&out, end));
-    io::write_all(STDOUT_FILENO, b"\n");
+    text(b"\n");
 }
 
 // Each depth, with room to spare; depths out of range; too little room.
@@ -106,26 +72,18 @@ fn show_ladders() {
     show_ladder(b"depth 7 in no words:", 7, 0);
 }
 
-// Opens the front of a table, and gives the number.
-fn open_front(rows: &[u32], count: usize, book: &mut [u32], sheet: &mut [u32]) -> u32 {
-    if rows.len() < count {
-        return 0;
-    }
-    ladders::open_table(&rows[..count], book, sheet)
-}
-
 // Writes cost and count of a plan, or the refusal.
-fn show_plan(text: &[u8], book: &Book, sheet: &Sheet, from: u32, to: u32) {
+fn show_plan(t: &[u8], book: &Book, sheet: &Sheet, from: u32, to: u32) {
     let mut plan = [0u8; 255];
-    io::write_all(STDOUT_FILENO, text);
+    text(t);
     match planning::plan(book, sheet, from, to, &mut plan) {
-        PlanAnswer::Planned { cost, count } => {
+        Ok(Planned { cost, count }) => {
             number(cost);
             number(count);
         }
-        PlanAnswer::Refused(k) => refusal(k),
+        Err(refusal) => say_no(refusal),
     }
-    io::write_all(STDOUT_FILENO, b"\n");
+    text(b"\n");
 }
 
 // Refreshes a book.
@@ -138,10 +96,11 @@ fn plan_depth(depth: u32, from: u32, to: u32) {
     let mut rows = [BEFORE; 570];
     let mut book = [BEFORE; book::BOOK];
     let mut sheet = [BEFORE; sheet::SHEET];
-    io::write_all(STDOUT_FILENO, b"ladder of");
+    text(b"ladder of");
     let end = write_front(depth, &mut rows, 570);
-    io::write_all(STDOUT_FILENO, b" words, opened:");
-    number(open_front(&rows, end, &mut book, &mut sheet));
+    text(b" words, opened:");
+    let answer = ladders::open_table(front(&rows, end), &mut book, &mut sheet);
+    number(status(answer.err()));
     refresh(&mut book, &mut sheet);
     show_plan(b", there:", &book, &sheet, from, to);
     show_plan(b"and back:", &book, &sheet, to, from);
@@ -158,14 +117,12 @@ fn plan_depths() {
 }
 
 // How many words of a table are not those of Open ladder's constant table.
-fn not_constant(rows: &Rows) -> u32 {
-    let mut count = 0u32;
-    let mut i = 0u32;
-    while i < 567 {
+fn not_constant(rows: &Rows) -> u64 {
+    let mut count = 0u64;
+    for i in 0..567 {
         if rows[i as usize] != opening::ladder_number(i / 3, i % 3) {
-            count = count % 100000 + 1;
+            count = count.saturating_add(1);
         }
-        i += 1;
     }
     count
 }
@@ -177,17 +134,14 @@ fn against_ladder() {
     let mut sheet = [BEFORE; sheet::SHEET];
     let mut other = [0u32; book::BOOK];
     let mut marks = [0u32; sheet::SHEET];
-    ladders::ladder(6, &mut rows);
-    open_front(&rows, 567, &mut book, &mut sheet);
-    opening::open_ladder(&mut other, &mut marks);
-    io::write_all(
-        STDOUT_FILENO,
-        b"depth 6 against Open ladder, different words:",
-    );
+    let _ = ladders::ladder(6, &mut rows);
+    let _ = ladders::open_table(front(&rows, 567), &mut book, &mut sheet);
+    let _ = opening::open_ladder(&mut other, &mut marks);
+    text(b"depth 6 against Open ladder, different words:");
     number(not_constant(&rows));
     number(different(&book, &other));
     number(different(&sheet, &marks));
-    io::write_all(STDOUT_FILENO, b"\n");
+    text(b"\n");
 }
 
 // The table of Open fresh's one row, against Open fresh.
@@ -196,18 +150,16 @@ fn against_fresh() {
     let mut sheet = [BEFORE; sheet::SHEET];
     let mut other = [0u32; book::BOOK];
     let mut marks = [0u32; sheet::SHEET];
-    ladders::open_table(&[0, 65535, 1], &mut book, &mut sheet);
-    opening::open_fresh(&mut other, &mut marks);
-    io::write_all(
-        STDOUT_FILENO,
-        b"one row against Open fresh, different words:",
-    );
+    let _ = ladders::open_table(&[0, 65535, 1], &mut book, &mut sheet);
+    let _ = opening::open_fresh(&mut other, &mut marks);
+    text(b"one row against Open fresh, different words:");
     number(different(&book, &other));
     number(different(&sheet, &marks));
-    io::write_all(STDOUT_FILENO, b"\n");
+    text(b"\n");
 }
 
-// Opens the front of a table into the first words of two lists, so many of each, and writes the number and how many words of the lists changed.
+// Opens the front of a table into the first words of two lists, so many of each, and writes the number of the refusal, or 0, and how many words
+// of the lists changed.
 fn open_fronts(
     rows: &[u32],
     count: usize,
@@ -216,49 +168,34 @@ fn open_fronts(
     sheet: &mut [u32],
     two: usize,
 ) {
-    if book.len() < one {
-        return;
-    }
-    if sheet.len() < two {
-        return;
-    }
-    number(open_front(rows, count, &mut book[..one], &mut sheet[..two]));
-    io::write_all(STDOUT_FILENO, b", changed");
+    let answer = ladders::open_table(
+        front(rows, count),
+        front_mut(book, one),
+        front_mut(sheet, two),
+    );
+    number(status(answer.err()));
+    text(b", changed");
     number(changed(book, 0));
     number(changed(sheet, 0));
-    io::write_all(STDOUT_FILENO, b"\n");
+    text(b"\n");
 }
 
 // Writes a text, and opens the front of a table into lists that are a word longer than a book and a sheet, so many words of each.
-fn show_lengths(text: &[u8], rows: &[u32], count: usize, one: usize, two: usize) {
+fn show_lengths(t: &[u8], rows: &[u32], count: usize, one: usize, two: usize) {
     let mut book = [BEFORE; book::BOOK + 1];
     let mut sheet = [BEFORE; sheet::SHEET + 1];
-    io::write_all(STDOUT_FILENO, text);
+    text(t);
     open_fronts(rows, count, &mut book, one, &mut sheet, two);
 }
 
 // The same with a book and a sheet of their right lengths.
-fn show_open(text: &[u8], rows: &[u32], count: usize) {
-    show_lengths(text, rows, count, book::BOOK, sheet::SHEET);
+fn show_open(t: &[u8], rows: &[u32], count: usize) {
+    show_lengths(t, rows, count, book::BOOK, sheet::SHEET);
 }
 
 // The same with the whole table.
-fn show_table(text: &[u8], rows: &[u32]) {
-    show_open(text, rows, rows.len());
-}
-
-// Writes a text and words of a book from one place up to another.
-fn show_words(text: &[u8], book: &Book, at: usize, end: usize) {
-    if book::BOOK < end {
-        return;
-    }
-    io::write_all(STDOUT_FILENO, text);
-    let mut i = at;
-    while i < end {
-        number(book[i]);
-        i += 1;
-    }
-    io::write_all(STDOUT_FILENO, b"\n");
+fn show_table(t: &[u8], rows: &[u32]) {
+    show_open(t, rows, rows.len());
 }
 
 // A table with gaps: machine 40, the root, has the nodes 1, 3 and 8 and starts at 3, which holds machine 7; that has 2, 6 and 9 and starts at 9;
@@ -296,7 +233,7 @@ fn show_nodes(book: &Book) {
 fn show_gaps() {
     let mut book = [BEFORE; book::BOOK];
     let mut sheet = [BEFORE; sheet::SHEET];
-    ladders::open_table(&GAPS, &mut book, &mut sheet);
+    let _ = ladders::open_table(&GAPS, &mut book, &mut sheet);
     show_words(b"root:", &book, 0, 1);
     show_words(b"holder and start of machine 0:", &book, 1, 3);
     show_words(b"of machine 7:", &book, 15, 17);
@@ -370,14 +307,12 @@ fn line_number(i: u32) -> u32 {
 
 // Fills a table with so many levels; with 0 the table of one machine.
 fn fill(rows: &mut Rows, levels: u32) {
-    let mut i = 0u32;
-    while i < 570 {
+    for i in 0..570 {
         rows[i as usize] = if levels == 0 {
             line_number(i)
         } else {
             chain_number(levels, i)
         };
-        i += 1;
     }
 }
 

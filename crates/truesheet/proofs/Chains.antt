@@ -79,15 +79,6 @@ pub record Ahead (r : Rows) (n v j : ℕ) : Type 0 where
   pub to : (k : ℕ) → NamesLead r v k → NamesLead r n (k + j)
   pub from : (k : ℕ) → NamesLead r n k → (i : ℕ) × (k ≡ i + j) × NamesLead r v i
 
-pub ahead_none : (r : Rows) (n : ℕ) → Ahead r n n 0
-ahead_none r n =
-    record {
-      to = λ k way.
-          let same : k ≡ k + 0 = omega arith in
-          subst (NamesLead r n) same way;
-      from = λ k way. (k, omega arith, way);
-    }
-
 pub ahead_more : {r : Rows} {n v u j : ℕ} → r.before v ≡ some u → Ahead r n v j → Ahead r n u (j + 1)
 ahead_more {r} {n} {v} {u} {j} before a =
     record {
@@ -121,15 +112,8 @@ follows_here {r} {n} {v} {j} a last short =
     record { near = λ e. subst (NamesLead r n) same (a.to 0 (steps_here last)); far = λ long. absurd (omega arith) }
 
 -- and where there are too many
-pub follows_far : {r : Rows} {n v u j k : ℕ} → Ahead r n v j → r.before v ≡ some u → longest_chain ≤ j → longest_chain < k → Follows r n k
-follows_far a before long large =
-    record {
-      near = λ short. absurd (omega arith);
-      far = λ _ (i, short, way).
-          let (h, f, rest) = a.from i way in
-          let (g, e, last) = on_steps before rest in
-          omega arith;
-    }
+pub follows_far : {r : Rows} {n v j : ℕ} → Ahead r n v j → longest_chain < j → Follows r n j
+follows_far a long = record { near = λ short. absurd (omega arith); far = λ _ (i, short, way). let (h, f, rest) = a.from i way in omega arith }
 
 -- ---- counting
 

@@ -12,11 +12,11 @@ use Rattle.definitions.specs.Truth.{node_exit}
 use Rattle.definitions.proofs.Options.{none_some, some_same}
 use Rattle.book.specs.Decides.{Decides}
 use Rattle.book.proofs.Decide.{decides_equal}
-use Rattle.sheet.specs.declared.OwnExit.{OwnExit}
-use Rattle.sheet.specs.declared.OwnExit.TheVariants.{Costs, Never}
+use Rattle.std.proofs.Common.{Some, None}
+use Rattle.std.proofs.Common as core
 use Rattle.sheet.specs.Exits.{Exits}
 use Rattle.sheet.proofs.Reading.{ReadRows, cost_is, cost_said, cost_unsaid}
-use Rattle.sheet.proofs.Exits.{exits_none, exits_some}
+use Rattle.sheet.proofs.Exits.{exits_some}
 use Rattle.truesheet.specs.Fits.{AtMost, AddsUp}
 
 -- ---- what is at most something
@@ -45,11 +45,7 @@ module _ (t : Tree) {r : Rows} (read : ReadRows r) (u x w c : ℕ) {d : ℕ} (co
   pub adds_blank : d ≡ blank → AddsUp t r u x w c → ⊥
   adds_blank z up = none_some (cost_unsaid (r.cost u) (read.cost u) cost z) up.reached
 
-  -- nor where it is never left
-  pub adds_never : {a : OwnExit} → Exits (node_exit t r u x) a → a ≡ Never → AddsUp t r u x w c → ⊥
-  adds_never exit never up = none_some (exits_none exit never) up.exits
-
-  pub adds_decides : (d ≡ blank → ⊥) → {a : OwnExit} {e : ℕ} → Exits (node_exit t r u x) a → a ≡ Costs e → {d' w' c' : ℕ} → d' ≡ d
+  pub adds_decides : (d ≡ blank → ⊥) → {a : core.Option ℕ} {e : ℕ} → Exits (node_exit t r u x) a → a ≡ Some e → {d' w' c' : ℕ} → d' ≡ d
       → w' ≡ w → c' ≡ c
       → Decides (eqb (d' + e + w') c') (AddsUp t r u x w c)
   adds_decides other {e = e} exit costs {d'} {w'} {c'} ed ew ec =

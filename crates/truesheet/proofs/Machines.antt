@@ -1,6 +1,6 @@
 -- What the tests of a machine's words decide, from the words that they look at. Assumes nothing.
 use mathlib.Core.Path.{◌≡◌, sym, subst, ◌∙◌}
-use mathlib.Core.Logic.{inl, inr, ⊎_elim}
+use mathlib.Core.Logic.{inl, inr}
 use mathlib.Core.Bool.{Bool, true}
 use mathlib.Core.Option.{none, some}
 use mathlib.Core.List.{List}
@@ -8,7 +8,7 @@ use Prim.Native.Nat.{ℕ, ◌≤◌, ◌<◌}
 use native.Mathlib.Omega.{arith}
 use lib.Dec.{eqb}
 use borrow.Author.Tests.{eqb-true}
-use Rattle.definitions.specs.Limits.{machines, nodes, commands, absent, blank}
+use Rattle.definitions.specs.Limits.{machines, nodes, absent, blank}
 use Rattle.definitions.specs.Tree.{Tree, Sound, parent}
 use Rattle.definitions.specs.Step.{counting}
 use Rattle.definitions.specs.Book.{word, transition_word}
@@ -104,13 +104,6 @@ module _ {r : Rows} (read : ReadRows r) (m x : ℕ) {c : ℕ} (exit : c ≡ cost
       (λ a. (cost_unsaid (r.exit m x) (read.exit m x) exit z, unsaid (read.last m x) el a))
       (λ b. unsaid_is el b.1)
 
--- a blank row for every command is a blank row
-pub machine_blank : {r : Rows} {m : ℕ} → ((x : ℕ) → x < commands → BlankExit r m x) → BlankMachine r m
-machine_blank each = record { exit = λ x range. (each x range).0; last = λ x range. (each x range).1 }
-
-pub blank_exits : {r : Rows} {m : ℕ} → BlankMachine r m → (x : ℕ) → x < commands → BlankExit r m x
-blank_exits b x range = (b.exit x range, b.last x range)
-
 -- ---- the machine above
 
 module _ {t : Tree} (s : Sound t) (m : ℕ) {h : ℕ} (holder : h ≡ word (t.holder m)) where
@@ -151,10 +144,6 @@ module _ {t : Tree} (s : Sound t) (m : ℕ) {h : ℕ} (holder : h ≡ word (t.ho
 -- ---- a machine
 
 module _ {t : Tree} (s : Sound t) {ws : List ℕ} (m : ℕ) {k : ℕ} (mark : Mark ws m k) where
-  -- its mark is 0 or 1
-  pub mark_other : 1 < k → MachineRowFits t ws m → ⊥
-  mark_other large fits = ⊎_elim (λ e. omega (arith, mark.word)) (λ e. omega (arith, mark.word)) fits.mark
-
   module _ {f : ℕ} (start : f ≡ word (t.start m)) where
     -- a machine that is not in use and not stale is blank
     pub machine_unused : (b : Bool) → k ≡ 0 → f ≡ absent → Decides b (BlankMachine (rows_of ws) m) → Decides b (MachineRowFits t ws m)
@@ -191,11 +180,7 @@ module _ {t : Tree} (s : Sound t) {ws : List ℕ} (m : ℕ) {k : ℕ} (mark : Ma
       pub stale_unused : f ≡ absent → MachineRowFits t ws m → ⊥
       stale_unused free fits = true_false (is_stale mark one) (fits.unused (no_start t s m start free)).0
 
-      -- below a stale one
-      pub stale_alone : (AboveStale t (rows_of ws) m → ⊥) → MachineRowFits t ws m → ⊥
-      stale_alone alone fits = alone (fits.stale (is_stale mark one)).1
-
-      -- and blank
+      -- below a stale one, and blank
       pub machine_stale : (b : Bool) → (f ≡ absent → ⊥) → AboveStale t (rows_of ws) m → Decides b (BlankMachine (rows_of ws) m)
           → Decides b (MachineRowFits t ws m)
       machine_stale b used above =

@@ -20,8 +20,8 @@ use Rattle.book.specs.Decides.{Decides}
 use Rattle.book.proofs.Counts.{no_counting, some_counting, counting_node}
 use Rattle.book.proofs.Decide.{decides_same, decides_equal}
 use Rattle.book.proofs.Said.{said_is, unsaid_is, unsaid}
-use Rattle.sheet.specs.declared.OwnExit.{OwnExit}
-use Rattle.sheet.specs.declared.OwnExit.TheVariants.{Costs, Never}
+use Rattle.std.proofs.Common.{Some, None}
+use Rattle.std.proofs.Common as core
 use Rattle.sheet.specs.Exits.{Exits}
 use Rattle.truesheet.specs.Fits.{AtMost, AddsUp, StartRowFits, RelaxedBy, RelaxedAt, FilledFits, NodeRowFits}
 use Rattle.sheet.proofs.Reading.{ReadRows, is_stale, is_filled, cost_back, cost_is, blank_is, cost_said, cost_unsaid}
@@ -157,9 +157,9 @@ named_far s r m n c before far name = omega (arith, said_is (r.before n) before 
 
 -- ---- leaving a node by a command
 
-module _ {t : Tree} (s : Sound t) {r : Rows} (read : ReadRows r) (m n c x : ℕ) {a : OwnExit} (exit : Exits (node_exit t r n x) a) where
+module _ {t : Tree} (s : Sound t) {r : Rows} (read : ReadRows r) (m n c x : ℕ) {a : core.Option ℕ} (exit : Exits (node_exit t r n x) a) where
   -- it is never left
-  pub relaxed_never : a ≡ Never → RelaxedBy t r m n c x
+  pub relaxed_never : a ≡ None → RelaxedBy t r m n c x
   relaxed_never never =
       let free = exits_none exit never in
       record {
@@ -167,7 +167,7 @@ module _ {t : Tree} (s : Sound t) {r : Rows} (read : ReadRows r) (m n c x : ℕ)
         exits = λ e stays out. absurd (none_some free out);
       }
 
-  module _ {e : ℕ} (costs_e : a ≡ Costs e) {w : ℕ} (moves : w ≡ transition_word (counting t n x)) {c' : ℕ} (same : c' ≡ c) where
+  module _ {e : ℕ} (costs_e : a ≡ Some e) {w : ℕ} (moves : w ≡ transition_word (counting t n x)) {c' : ℕ} (same : c' ≡ c) where
     out : node_exit t r n x ≡ some e
     out = (exits_some exit costs_e).0
 

@@ -2,20 +2,21 @@
 // looked at before it is an index, and costs are added in 64 bits.
 #![tactic(auto)]
 
-ghost use Rattle.std.specs.Prelude.{◌≡◌, ◌≤◌, ◌<◌, length, get_or};
+ghost use Rattle.std.specs.Prelude.{◌≡◌, [], ◌≤◌, ◌<◌, length, get_or};
 ghost use Rattle.definitions.specs.Limits.{machines, nodes, commands, sheet_length, longest_chain};
 ghost use Rattle.definitions.specs.Step.{counting};
 ghost use Rattle.definitions.specs.Book.{transition_word, tree_of, WellFormed};
 ghost use Rattle.definitions.specs.Sheet.{cost_of, rows_of};
 ghost use Rattle.definitions.specs.Truth.{BlankMachine, BlankNode, Named, Ended, TrueSheet};
+ghost use Rattle.definitions.specs.Calls.{sheet_refusals};
 ghost use Rattle.book.specs.Decides.{Decides};
+ghost use Rattle.refusals.specs.Meaning.{Judged};
 ghost use Rattle.sheet.specs.Exits.{Readable};
 ghost use Rattle.truesheet.specs.Fits.{AtMost, AddsUp, BlankExit, ExitFits, ExitsFit, AboveStale, MachineRowFits, MachineRowsFit};
 ghost use Rattle.truesheet.specs.Fits.{StartRowFits, RelaxedBy, RelaxedAt, FilledFits, NodeRowFits, NodeRowsFit};
 ghost use Rattle.truesheet.specs.Fits.{Chained, ChainsFit, NamesLead, Follows, Counted};
 
-use book::wide;
-use sheet::OwnExit;
+use refusals::Refusal;
 
 // The most steps by names from a node to its machine's start.
 const STEPS: u32 = 255;
@@ -30,7 +31,7 @@ fn at_most(c: u32, k: u64) -> bool
     if c == book::BLANK {
         return false;
     }
-    wide(c) <= k
+    u64::from(c) <= k
 }
 
 // Whether the cost of node u, its own exit cost for x and w together are c.
@@ -42,10 +43,10 @@ fn adds_up(book: &[u32], sheet: &[u32], u: u32, x: u32, w: u32, c: u32) -> bool
     if d == book::BLANK {
         return false;
     }
-    let OwnExit::Costs(e) = sheet::own_exit(book, sheet, u, x) else {
+    let Some(e) = sheet::own_exit(book, sheet, u, x) else {
         return false;
     };
-    wide(d) + e + wide(w) == wide(c)
+    u64::from(d) + e + u64::from(w) == u64::from(c)
 }
 
 // Whether exit cost c of machine m for command x has its last node.
@@ -232,10 +233,10 @@ fn relaxed_word(book: &[u32], sheet: &[u32], m: u32, n: u32, c: u32, x: u32, w: 
         least = cost;
         price = w % 65536;
     }
-    let OwnExit::Costs(e) = sheet::own_exit(book, sheet, n, x) else {
+    let Some(e) = sheet::own_exit(book, sheet, n, x) else {
         return true;
     };
-    at_most(least, wide(c) + e + wide(price))
+    at_most(least, u64::from(c) + e + u64::from(price))
 }
 
 // The same without the word. Most transitions are not shut: with a call for each case the word of such a one is tested as it stands.
@@ -327,8 +328,7 @@ fn follow(sheet: &[u32], counts: &[u32; 256], n: u32) -> u32
     ensures { Follows (rows_of sheet.now) n result }
 {
     let mut v = n;
-    let mut steps = 0u32;
-    loop {
+    for steps in 0..=STEPS {
         let k = count(counts, v);
         if k != UNCOUNTED {
             return steps + k;
@@ -337,12 +337,9 @@ fn follow(sheet: &[u32], counts: &[u32; 256], n: u32) -> u32
         if u == book::ABSENT {
             return steps;
         }
-        if steps == STEPS {
-            return STEPS + 1;
-        }
         v = u;
-        steps += 1;
     }
+    STEPS + 1
 }
 
 // Counts node n, which is k steps from its start, and the nodes on the way that are not counted.
@@ -369,14 +366,12 @@ fn chains_fit(sheet: &[u32]) -> bool
     ensures { Decides result (ChainsFit (rows_of sheet.now)) }
 {
     let mut counts = [UNCOUNTED; 256];
-    let mut n = 0u32;
-    while n < book::NODES {
+    for n in 0..book::NODES {
         let k = follow(sheet, &counts, n);
         if STEPS < k {
             return false;
         }
         settle(sheet, &mut counts, n, k);
-        n += 1;
     }
     true
 }
@@ -396,4 +391,18 @@ pub fn true_sheet(book: &[u32], sheet: &[u32]) -> bool
         return false;
     }
     chains_fit(sheet)
+}
+
+// The refusals that a call on a book and its sheet begins with: 1 (a wrong length of either), 2 (book not well formed), 3 (sheet not true).
+pub fn judge(book: &[u32], sheet: &[u32]) -> Result<(), Refusal>
+    ensures { Judged (sheet_refusals book.now sheet.now []) result }
+{
+    if sheet.len() != sheet::SHEET {
+        return Err(Refusal::WrongLength);
+    }
+    wellformed::judge(book)?;
+    if !true_sheet(book, sheet) {
+        return Err(Refusal::NotTrue);
+    }
+    Ok(())
 }

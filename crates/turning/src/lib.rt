@@ -1,11 +1,15 @@
 // Turning a book from one layout into the other (document 02, W-209): its transitions by node, as document 01 has them, or by command.
 #![tactic(auto)]
 
-ghost use Rattle.std.specs.Prelude.{◌≡◌, List, ℕ, ◌+◌, ◌*◌, ◌≤◌, ◌<◌, length, get_or};
+ghost use Rattle.std.specs.Prelude.{◌≡◌, [], ◌∷◌, List, ℕ, ◌+◌, ◌*◌, ◌≤◌, ◌<◌, length, get_or};
 ghost use Rattle.definitions.specs.Limits.{nodes, commands, book_length};
 ghost use Rattle.definitions.specs.Book.{node_fields, node_base, hold_base};
 ghost use Rattle.definitions.specs.ByCommand.{by_command, by_node, TurnSays};
+ghost use Rattle.definitions.specs.Answer.{asks};
+ghost use Rattle.refusals.specs.Meaning.{status_of, Judged};
 ghost use Rattle.turning.specs.Fronts.{Front};
+
+use refusals::Refusal;
 
 // The first word of a node's record by node, and behind the records; the first owner by command.
 const RECORDS: usize = 129;
@@ -17,20 +21,13 @@ const OWNERS: usize = 4225;
 // How many transition words there are.
 const TRANSITIONS: usize = 4096;
 
-// The one refusal of a turn.
-const WRONG_LENGTH: u32 = 1;
-
 // Copies so many words from a place of one list to a place of another.
 fn copy(from: &[u32], at: usize, out: &mut [u32], to: usize, count: usize)
     requires { (at + count ≤ length from.now) × (to + count ≤ length out.old) }
     ensures { (f : List ℕ) → Front to f out.old → ((i : ℕ) → i < count → get_or from.now (at + i) 0 ≡ get_or f (to + i) 0)
         → Front (to + count) f out.new }
 {
-    let mut i: usize = 0;
-    while i < count {
-        out[to + i] = from[at + i];
-        i += 1;
-    }
+    out[to..to + count].copy_from_slice(&from[at..at + count]);
 }
 
 // Writes the transition words of command x.
@@ -38,10 +35,8 @@ fn one_command(from: &[u32], out: &mut [u32], x: usize)
     requires { (length from.now ≡ book_length) × (x < commands) × Front (x * nodes) (by_command from.now) out.old }
     ensures { Front ((x + 1) * nodes) (by_command from.now) out.new }
 {
-    let mut n: usize = 0;
-    while n < book::NODES as usize {
+    for n in 0..book::NODES as usize {
         out[256 * x + n] = from[RECORDS + 18 * n + 2 + x];
-        n += 1;
     }
 }
 
@@ -50,10 +45,8 @@ fn all_commands(from: &[u32], out: &mut [u32])
     requires { (length from.now ≡ book_length) × (length out.old ≡ book_length) }
     ensures { Front (commands * nodes) (by_command from.now) out.new }
 {
-    let mut x: usize = 0;
-    while x < 16 {
+    for x in 0..16 {
         one_command(from, out, x);
-        x += 1;
     }
 }
 
@@ -62,10 +55,8 @@ fn owners(from: &[u32], out: &mut [u32])
     requires { (length from.now ≡ book_length) × Front (commands * nodes + node_base) (by_command from.now) out.old }
     ensures { Front hold_base (by_command from.now) out.new }
 {
-    let mut n: usize = 0;
-    while n < book::NODES as usize {
+    for n in 0..book::NODES as usize {
         copy(from, RECORDS + 18 * n, out, OWNERS + 2 * n, 2);
-        n += 1;
     }
 }
 
@@ -86,10 +77,8 @@ fn one_record(from: &[u32], out: &mut [u32], n: usize)
     ensures { Front (node_base + (n + 1) * node_fields) (by_node from.now) out.new }
 {
     copy(from, OWNERS + 2 * n, out, RECORDS + 18 * n, 2);
-    let mut x: usize = 0;
-    while x < 16 {
+    for x in 0..16 {
         out[RECORDS + 18 * n + 2 + x] = from[256 * x + n];
-        x += 1;
     }
 }
 
@@ -98,10 +87,8 @@ fn all_records(from: &[u32], out: &mut [u32])
     requires { (length from.now ≡ book_length) × Front node_base (by_node from.now) out.old }
     ensures { Front hold_base (by_node from.now) out.new }
 {
-    let mut n: usize = 0;
-    while n < book::NODES as usize {
+    for n in 0..book::NODES as usize {
         one_record(from, out, n);
-        n += 1;
     }
 }
 
@@ -115,30 +102,33 @@ pub fn turn_by_node(from: &[u32], out: &mut [u32])
     copy(from, BEHIND, out, BEHIND, book::BOOK - BEHIND);
 }
 
-// Writes a book by node into another list by command, and gives 0. It refuses a wrong length of either list with 1 and then writes nothing.
-pub fn by_command(from: &[u32], out: &mut [u32]) -> u32
-    ensures { TurnSays by_command from.now out.old result out.new }
+// The one refusal of a turn: 1 (a wrong length of either list).
+fn judge_lengths(from: &[u32], out: &[u32]) -> Result<(), Refusal>
+    ensures { Judged (asks 1 ((length from.now ≡ book_length) × (length out.now ≡ book_length)) ∷ []) result }
 {
     if from.len() != book::BOOK {
-        return WRONG_LENGTH;
+        return Err(Refusal::WrongLength);
     }
     if out.len() != book::BOOK {
-        return WRONG_LENGTH;
+        return Err(Refusal::WrongLength);
     }
-    turn_by_command(from, out);
-    0
+    Ok(())
 }
 
-// Writes a book by command into another list by node, and gives 0. It refuses a wrong length of either list with 1 and then writes nothing.
-pub fn by_node(from: &[u32], out: &mut [u32]) -> u32
-    ensures { TurnSays by_node from.now out.old result out.new }
+// Writes a book by node into another list by command. It refuses a wrong length of either list with 1 and then writes nothing.
+pub fn by_command(from: &[u32], out: &mut [u32]) -> Result<(), Refusal>
+    ensures { TurnSays by_command from.now out.old (status_of result) out.new }
 {
-    if from.len() != book::BOOK {
-        return WRONG_LENGTH;
-    }
-    if out.len() != book::BOOK {
-        return WRONG_LENGTH;
-    }
+    judge_lengths(from, out)?;
+    turn_by_command(from, out);
+    Ok(())
+}
+
+// Writes a book by command into another list by node. It refuses a wrong length of either list with 1 and then writes nothing.
+pub fn by_node(from: &[u32], out: &mut [u32]) -> Result<(), Refusal>
+    ensures { TurnSays by_node from.now out.old (status_of result) out.new }
+{
+    judge_lengths(from, out)?;
     turn_by_node(from, out);
-    0
+    Ok(())
 }

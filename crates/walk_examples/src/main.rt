@@ -2,43 +2,39 @@
 // and its number, and then where the walkers stand.
 #![tactic(auto)]
 
-use stepping::StepAnswer;
-
-// The descriptor of standard output.
-const STDOUT_FILENO: i32 = 1;
+use stepping::Moved;
+use trying::{MAST, number, numbers, say_no, status, text};
 
 // A book and a sheet.
 type Book = [u32; book::BOOK];
 
 type Sheet = [u32; sheet::SHEET];
 
-// Writes a space and a number.
-fn number(n: u32) {
-    io::write_all(STDOUT_FILENO, b" ");
-    io::print_decimal(STDOUT_FILENO, n as u64);
-}
-
 // Writes ` at` and every state of a list, and ends the line.
 fn show_states(walkers: &[u32]) {
-    io::write_all(STDOUT_FILENO, b" at");
-    let mut i = 0usize;
-    while i < walkers.len() {
-        number(walkers[i]);
-        i += 1;
-    }
-    io::write_all(STDOUT_FILENO, b"\n");
+    text(b" at");
+    numbers(walkers);
+    text(b"\n");
 }
 
-// Opens walkers, and writes a text and the number.
-fn show_opening(text: &[u8], book: &[u32], node: u32, limit: u32, walkers: &[u32]) {
-    io::write_all(STDOUT_FILENO, text);
-    number(walking::open_walkers(book, node, limit, walkers));
+// Opens walkers, and writes a text and the number of the refusal, or 0.
+fn show_opening(t: &[u8], book: &[u32], node: u32, limit: u32, walkers: &[u32]) {
+    text(t);
+    let answer = walking::open_walkers(book, node, limit, walkers);
+    number(status(answer.err()));
     show_states(walkers);
+}
+
+// Writes the state, the cost and the node whose transition was used.
+fn show_moved(moved: Moved) {
+    number(moved.state);
+    number(moved.cost);
+    number(moved.node);
 }
 
 // Gives a walker a command, and writes a text, the state, the cost and the node whose transition was used, or the refusal.
 fn show_walk(
-    text: &[u8],
+    t: &[u8],
     book: &[u32],
     node: u32,
     limit: u32,
@@ -46,21 +42,10 @@ fn show_walk(
     walker: u32,
     command: u32,
 ) {
-    io::write_all(STDOUT_FILENO, text);
+    text(t);
     match walking::walk(book, node, limit, walkers, walker, command) {
-        StepAnswer::Moved {
-            state,
-            cost,
-            node: acted,
-        } => {
-            number(state);
-            number(cost);
-            number(acted);
-        }
-        StepAnswer::Refused(k) => {
-            io::write_all(STDOUT_FILENO, b" no");
-            number(k);
-        }
+        Ok(moved) => show_moved(moved),
+        Err(refusal) => say_no(refusal),
     }
     show_states(walkers);
 }
@@ -142,12 +127,8 @@ fn show_books() {
 fn main() {
     let mut book = [0u32; book::BOOK];
     let mut sheet = [0u32; sheet::SHEET];
-    opening::open_fresh(&mut book, &mut sheet);
-    loading::load(
-        &mut book,
-        &mut sheet,
-        b"\x10\x00\x00\x00\x11\x00\x00\x01\x11\x00\x00\x02\x12\x00\x01\x01\x00\x0A\x11\x01\x00\x0B\x14\x00\x00\x00\x00\x01\x00\x05\x14\x00\x00\x02\x00\x02\x00\x14\x14\x00\x01\x01\x00\x02\x00\x03\x14\x00\x02\x00\x00\x00\x00\x07\x14\x00\x0A\x01\x00\x0A\x00\x01\x14\x00\x0A\x02\x00\x0B\x00\x04",
-    );
+    let _ = opening::open_fresh(&mut book, &mut sheet);
+    loading::load(&mut book, &mut sheet, &MAST);
     show_refined(&book);
     show_plain(&book);
     show_bounds(&book);

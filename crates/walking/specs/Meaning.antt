@@ -1,5 +1,5 @@
 -- What the parts of a walker call are asked and answer.
-use Rattle.std.specs.Prelude.{◌≡◌, Bool, false, ◌&&◌, [], ◌∷◌, ℕ, ◌<◌, get_or}
+use Rattle.std.specs.Prelude.{◌≡◌, Bool, false, ◌&&◌, [], ◌∷◌, ℕ, ◌<◌, get_or, Result, Ok, Err}
 use Rattle.std.proofs.Math.Option.{none}
 use Rattle.definitions.specs.Limits.{nodes}
 use Rattle.definitions.specs.Tree.{Tree, UsedNode}
@@ -7,6 +7,8 @@ use Rattle.definitions.specs.Step.{step}
 use Rattle.definitions.specs.Answer.{Answer, refuses, asks, wants, InOrder}
 use Rattle.definitions.specs.Calls.{GivesStep}
 use Rattle.definitions.specs.Walk.{comes_inside}
+use Rattle.refusals.specs.declared.Refusal.{Refusal}
+use Rattle.stepping.specs.declared.Moved.{Moved}
 use Rattle.walking.specs.declared.Asked.{Asked}
 use Rattle.walking.specs.declared.Asked.TheVariants.{InRange, Used, Plain}
 
@@ -16,9 +18,20 @@ Meets InRange t s = s < nodes
 Meets Used t s = UsedNode t s
 Meets Plain t s = t.below s ≡ none
 
+-- and what it is refused with where it has it not
+abbrev pub asked_number : Asked → ℕ
+asked_number InRange = 6
+asked_number Used = 7
+asked_number Plain = 14
+
 -- a walker may stand at s: a state
 abbrev pub Standing : Tree → ℕ → Type 0
 Standing t s = UsedNode t s × (t.below s ≡ none)
+
+-- the state of a walker at s after what its command gives: its old one where it is refused
+abbrev pub state_after : ℕ → Result Moved Refusal → ℕ
+state_after s (Ok m) = m.state
+state_after s (Err r) = s
 
 -- one walker's command x at state s, where as many as may be are inside node n (full) or fewer: 17, 22, or what Step gives; s' is the walker's
 -- state after it, its old one where it is refused

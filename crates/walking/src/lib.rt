@@ -2,17 +2,20 @@
 // judged anew each time.
 #![tactic(auto)]
 
-ghost use Rattle.std.specs.Prelude.{◌≡◌, not, ◌&&◌, ◌≤◌, ◌<◌, length};
+ghost use Rattle.std.specs.Prelude.{◌≡◌, not, [], ◌∷◌, ◌&&◌, ◌≤◌, ◌<◌, length};
 ghost use Rattle.definitions.specs.Basics.{All};
 ghost use Rattle.definitions.specs.Limits.{nodes, commands, most_walkers};
 ghost use Rattle.definitions.specs.Tree.{within};
 ghost use Rattle.definitions.specs.Book.{tree_of, WellFormed};
+ghost use Rattle.definitions.specs.Answer.{asks};
 ghost use Rattle.definitions.specs.Walk.{inside, OpenWalkersSay, WalkSays};
 ghost use Rattle.book.specs.Decides.{Decides};
+ghost use Rattle.refusals.specs.Meaning.{number_of, status_of, Judged};
 ghost use Rattle.stepping.specs.Meaning.{answer_of};
-ghost use Rattle.walking.specs.Meaning.{Meets, Standing, OneWalkerSays};
+ghost use Rattle.walking.specs.Meaning.{asked_number, Meets, Standing, state_after, OneWalkerSays};
 
-use stepping::StepAnswer;
+use refusals::Refusal;
+use stepping::Moved;
 
 // The most walkers, and their highest limit.
 const WALKERS: u32 = 8;
@@ -31,11 +34,15 @@ struct Walker {
     state: u32,
 }
 
-// A walker's command: its state after it, and the answer.
-#[derive(Drop)]
-struct Walked {
-    state: u32,
-    answer: StepAnswer,
+// The refusal of a number that has not what is asked.
+fn refusal(asked: Asked) -> Refusal
+    ensures { number_of result ≡ asked_number asked }
+{
+    match asked {
+        Asked::InRange => Refusal::OutOfRange,
+        Asked::Used => Refusal::NotInUse,
+        Asked::Plain => Refusal::NotPlain,
+    }
 }
 
 // Whether a number has what is asked. What is no node's is not in use; it is not refined either.
@@ -50,19 +57,17 @@ fn meets(book: &[u32], asked: Asked, s: u32) -> bool
     }
 }
 
-// Whether each number of a list has it.
-fn all_meet(book: &[u32], asked: Asked, states: &[u32]) -> bool
+// The refusal of a list of numbers, each of which is to have what is asked.
+fn judge(book: &[u32], asked: Asked, states: &[u32]) -> Result<(), Refusal>
     requires { WellFormed book.now }
-    ensures { Decides result (All (Meets asked (tree_of book.now)) states.now) }
+    ensures { Judged (asks (asked_number asked) (All (Meets asked (tree_of book.now)) states.now) ∷ []) result }
 {
-    let mut i = 0usize;
-    while i < states.len() {
-        if !meets(book, asked, states[i]) {
-            return false;
+    for s in states {
+        if !meets(book, asked, *s) {
+            return Err(refusal(asked));
         }
-        i += 1;
     }
-    true
+    Ok(())
 }
 
 // How many of at most 8 states are inside node n.
@@ -71,51 +76,36 @@ fn count_inside(book: &[u32], n: u32, states: &[u32]) -> u32
     ensures { result ≡ inside (tree_of book.now) n states.now }
 {
     let mut count = 0u32;
-    let mut i = 0usize;
-    while i < states.len() {
-        count += stepping::within(book, n, states[i]);
-        i += 1;
+    for s in states {
+        if stepping::within(book, n, *s) {
+            count += 1;
+        }
     }
     count
 }
 
-// The opening of walkers: judges a node, a limit and the walkers' states, and gives 0 or refuses: 1 (a wrong length), 2 (book not well formed), 23
-// (the limit or the number of walkers over 8), 6 (a number out of range), 7 (a node not in use), 14 (a walker at a node that is not plain), 23
-// (more than the limit inside).
-pub fn open_walkers(book: &[u32], node: u32, limit: u32, walkers: &[u32]) -> u32
-    ensures { OpenWalkersSay book.now node limit «walkers».now result }
+// The opening of walkers: judges a node, a limit and the walkers' states. It refuses 1 (a wrong length), 2 (book not well formed), 23 (the limit or
+// the number of walkers over 8), 6 (a number out of range), 7 (a node not in use), 14 (a walker at a node that is not plain), 23 (more than the
+// limit inside).
+pub fn open_walkers(book: &[u32], node: u32, limit: u32, walkers: &[u32]) -> Result<(), Refusal>
+    ensures { OpenWalkersSay book.now node limit «walkers».now (status_of result) }
 {
-    if book.len() != book::BOOK {
-        return 1;
-    }
-    if !wellformed::well_formed(book) {
-        return 2;
-    }
+    wellformed::judge(book)?;
     if WALKERS < limit {
-        return 23;
+        return Err(Refusal::LimitTooLarge);
     }
     if (WALKERS as usize) < walkers.len() {
-        return 23;
+        return Err(Refusal::LimitTooLarge);
     }
-    if !meets(book, Asked::InRange, node) {
-        return 6;
-    }
-    if !all_meet(book, Asked::InRange, walkers) {
-        return 6;
-    }
-    if !meets(book, Asked::Used, node) {
-        return 7;
-    }
-    if !all_meet(book, Asked::Used, walkers) {
-        return 7;
-    }
-    if !all_meet(book, Asked::Plain, walkers) {
-        return 14;
-    }
+    judge(book, Asked::InRange, &[node])?;
+    judge(book, Asked::InRange, walkers)?;
+    judge(book, Asked::Used, &[node])?;
+    judge(book, Asked::Used, walkers)?;
+    judge(book, Asked::Plain, walkers)?;
     if limit < count_inside(book, node, walkers) {
-        return 23;
+        return Err(Refusal::LimitTooLarge);
     }
-    0
+    Ok(())
 }
 
 // Whether a walker that goes from state s to state v would pass the limit: it comes from outside node n to inside, where no more may be (full).
@@ -126,59 +116,32 @@ fn exceeds(book: &[u32], n: u32, full: bool, s: u32, v: u32) -> bool
     if !full {
         return false;
     }
-    if stepping::within(book, n, s) == 1 {
+    if stepping::within(book, n, s) {
         return false;
     }
-    stepping::within(book, n, v) == 1
+    stepping::within(book, n, v)
 }
 
-// The command of a walker by value, where as many as may be are inside node n (full) or fewer: Step's answer and the state that it gives, or a
-// refusal, 17 or 22, and the walker's own state.
-fn step_walker(w: Walker, book: &[u32], n: u32, full: bool, x: u32) -> Walked
+// The command of a walker by value, where as many as may be are inside node n (full) or fewer: what Step gives, or a refusal, 17 or 22.
+fn step_walker(w: Walker, book: &[u32], n: u32, full: bool, x: u32) -> Result<Moved, Refusal>
     requires { Standing (tree_of book.now) w.state × WellFormed book.now × (x < commands) }
-    ensures { OneWalkerSays (tree_of book.now) n full w.state x result.state (answer_of result.answer) }
+    ensures { OneWalkerSays (tree_of book.now) n full w.state x (state_after w.state result) (answer_of result) }
 {
-    let s = w.state;
-    let answer = stepping::step_from(book, s, x);
-    match answer {
-        StepAnswer::Moved {
-            state,
-            cost: _,
-            node: _,
-        } => {
-            if exceeds(book, n, full, s, state) {
-                return Walked {
-                    state: s,
-                    answer: StepAnswer::Refused(22),
-                };
-            }
-            Walked { state, answer }
-        }
-        StepAnswer::Refused(_) => Walked { state: s, answer },
+    let moved = stepping::step_from(book, w.state, x)?;
+    if exceeds(book, n, full, w.state, moved.state) {
+        return Err(Refusal::PastLimit);
     }
+    Ok(moved)
 }
 
-// The command of a walker whose record is lent: the record takes the state after it, which is the old one where it is refused.
-fn advance(w: &mut Walker, book: &[u32], n: u32, full: bool, x: u32) -> StepAnswer
+// The command of a walker whose record is lent: the record takes the state after it, and stays the old one where it is refused.
+fn advance(w: &mut Walker, book: &[u32], n: u32, full: bool, x: u32) -> Result<Moved, Refusal>
     requires { Standing (tree_of book.now) w.old.state × WellFormed book.now × (x < commands) }
     ensures { OneWalkerSays (tree_of book.now) n full w.old.state x w.new.state (answer_of result) }
 {
-    let r = step_walker(*w, book, n, full, x);
-    w.state = r.state;
-    r.answer
-}
-
-// The same with plain parameters, for a walker at state s: its record is made and lent.
-fn advance_from(s: u32, book: &[u32], n: u32, full: bool, x: u32) -> Walked
-    requires { Standing (tree_of book.now) s × WellFormed book.now × (x < commands) }
-    ensures { OneWalkerSays (tree_of book.now) n full s x result.state (answer_of result.answer) }
-{
-    let mut w = Walker { state: s };
-    let answer = advance(&mut w, book, n, full, x);
-    Walked {
-        state: w.state,
-        answer,
-    }
+    let moved = step_walker(*w, book, n, full, x)?;
+    w.state = moved.state;
+    Ok(moved)
 }
 
 // A walker command: the walker's step, and its record with the state that the step gives. It refuses as the opening does, then 6 (a number with no
@@ -191,22 +154,20 @@ pub fn walk(
     walkers: &mut [u32],
     walker: u32,
     command: u32,
-) -> StepAnswer
+) -> Result<Moved, Refusal>
     ensures { WalkSays book.now node limit «walkers».old walker command (answer_of result) «walkers».new }
 {
-    let number = open_walkers(book, node, limit, walkers);
-    if number != 0 {
-        return StepAnswer::Refused(number);
-    }
+    open_walkers(book, node, limit, walkers)?;
     let at = walker as usize;
     if walkers.len() <= at {
-        return StepAnswer::Refused(6);
+        return Err(Refusal::OutOfRange);
     }
     if book::COMMANDS <= command {
-        return StepAnswer::Refused(6);
+        return Err(Refusal::OutOfRange);
     }
     let full = limit <= count_inside(book, node, walkers);
-    let r = advance_from(walkers[at], book, node, full, command);
-    walkers[at] = r.state;
-    r.answer
+    let mut going = Walker { state: walkers[at] };
+    let answer = advance(&mut going, book, node, full, command);
+    walkers[at] = going.state;
+    answer
 }

@@ -3,7 +3,7 @@ use mathlib.Core.Path.{◌≡◌, sym, ap, ◌∙◌}
 use mathlib.Core.Logic.{inr, ⊎_elim}
 use mathlib.Core.Bool.{Bool, not}
 use mathlib.Core.Option.{some}
-use Prim.Native.Nat.{ℕ, ◌/◌, ◌≤◌, ◌<◌}
+use Prim.Native.Nat.{ℕ, ◌/◌, ◌<◌}
 use native.Mathlib.Omega.{arith}
 use lib.Dec.{eqb}
 use Rattle.definitions.specs.Limits.{machines, nodes, levels, costs, absent, blank}
@@ -52,10 +52,7 @@ module _ {t : Tree} (read : Read t) where
       own : t.owner s ≡ some m
       own = present_word (t.owner s) (sym right ∙ eo) (λ z. omega arith)
 
-  -- the hold of a node: neither 0 nor 1, of a node that is not in use, and of one that is
-  pub hold_other : (n : ℕ) {h : ℕ} → h ≡ t.hold n → (h ≡ 0 → ⊥) → (h ≡ 1 → ⊥) → HoldFits t n → ⊥
-  hold_other n eh other wrong fits = ⊎_elim (λ free. other (eh ∙ free)) (λ rest. wrong (eh ∙ rest.0)) fits
-
+  -- the hold of a node that is not in use, and of one that is
   pub hold_unused : (n : ℕ) {h o : ℕ} → h ≡ t.hold n → (h ≡ 0 → ⊥) → o ≡ word (t.owner n) → o ≡ absent → HoldFits t n → ⊥
   hold_unused n eh other eo z fits =
       ⊎_elim (λ free. other (eh ∙ free)) (λ rest. let (m, own, inner) = rest.1 in unsaid_all (read.owner n) eo z m own) fits
@@ -72,10 +69,7 @@ module _ {t : Tree} (read : Read t) where
       let first : t.start m ≡ some n = present_word (t.start m) (sym same ∙ ef) (λ z. omega arith) in
       inner (ap t.start (some_same own_p own) ∙ first)) fits)
 
-  -- what leaving a machine costs: too much, of a machine that is not in use, and of one that is
-  pub leave_large : (m : ℕ) {c : ℕ} → c ≡ t.leave m → costs ≤ c → LeaveFits t m → ⊥
-  leave_large m ec large fits = ⊎_elim (λ free. omega (arith, free)) (λ rest. omega (arith, rest.0)) fits
-
+  -- what leaving a machine costs that is not in use, and one that is
   pub leave_unused : (m : ℕ) {c s : ℕ} → c ≡ t.leave m → (c ≡ 0 → ⊥) → s ≡ word (t.start m) → s ≡ absent → LeaveFits t m → ⊥
   leave_unused m ec charged es z fits = ⊎_elim (λ free. charged (ec ∙ free)) (λ rest. machine_unused m es z rest.1) fits
 

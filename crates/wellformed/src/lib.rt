@@ -2,13 +2,17 @@
 // here, so a number is looked at before it is an index.
 #![tactic(auto)]
 
-ghost use Rattle.std.specs.Prelude.{◌≡◌, ◌<◌, length};
+ghost use Rattle.std.specs.Prelude.{◌≡◌, [], ◌<◌, length};
 ghost use Rattle.definitions.specs.Limits.{machines, nodes, commands, levels, book_length};
 ghost use Rattle.definitions.specs.Tree.{parent};
 ghost use Rattle.definitions.specs.Book.{word, tree_of, WellFormed};
+ghost use Rattle.definitions.specs.Calls.{book_refusals};
 ghost use Rattle.book.specs.Decides.{Decides};
+ghost use Rattle.refusals.specs.Meaning.{Judged};
 ghost use Rattle.wellformed.specs.Fits.{Climbs, RootFits, StartFits, HolderFits, LeaveFits, MachineFits, MachinesFit};
 ghost use Rattle.wellformed.specs.Fits.{OwnerFits, BelowFits, HoldFits, TransitionFits, TransitionsFit, NodeFits, NodesFit};
+
+use refusals::Refusal;
 
 // The most steps from a machine to the root: one less than there are levels.
 const STEPS: u32 = 7;
@@ -295,4 +299,17 @@ pub fn well_formed(book: &[u32]) -> bool
         return false;
     }
     nodes_fit(book)
+}
+
+// The refusals that a call on a book begins with: 1 (a wrong length), 2 (not well formed).
+pub fn judge(book: &[u32]) -> Result<(), Refusal>
+    ensures { Judged (book_refusals book.now []) result }
+{
+    if book.len() != book::BOOK {
+        return Err(Refusal::WrongLength);
+    }
+    if !well_formed(book) {
+        return Err(Refusal::NotWellFormed);
+    }
+    Ok(())
 }

@@ -1,7 +1,7 @@
 -- Demand 3: after an opening, any Loads and a refresh the lists hold the expected station, and Plan's answer is a good plan or a true "no way".
 -- Assumes nothing.
 use mathlib.Core.Path.{◌≡◌, refl, sym, ◌∙◌, ap, subst}
-use mathlib.Core.Logic.{◌⊎◌, inl, inr, ⊎_elim}
+use mathlib.Core.Logic.{inl, inr, ⊎_elim}
 use mathlib.Core.Bool.{true, not}
 use mathlib.Core.Option.{none, some}
 use mathlib.Core.List.{[], List, ◌∷◌}

@@ -4,11 +4,8 @@ use mathlib.Core.List.{[], List, ◌∷◌, ◌++◌}
 use Prim.Native.Nat.{ℕ, ◌+◌, ◌-◌, ◌≤◌, ◌<◌}
 use native.Mathlib.Numerals.{add-one}
 use native.Mathlib.Omega.{arith}
-use lib.Dec.{eqb}
-use lib.ListN.{length, get_or, drop, length-append, drop_of_length-le}
+use lib.ListN.{length, get_or, drop, length-append}
 use lib.Seq.{take_at, drop_at, drop-cons, drop-drop}
-use Rattle.book.specs.Decides.{Decides}
-use Rattle.book.proofs.Decide.{decides_equal}
 use Rattle.wholerun.specs.Ends.{Rising, streams_of, together, ends_of}
 
 -- the ends of streams rise, from their offset to that and all their bytes
@@ -53,27 +50,3 @@ pub record Looked (ends : List ℕ) (total from i : ℕ) : Type 0 where
   pub room : i ≤ length ends
   pub forth : Rising 0 ends total → Rising from (drop i ends) total
   pub back : Rising from (drop i ends) total → Rising 0 ends total
-
-module _ {ends : List ℕ} {total : ℕ} where
-  pub looked_none : Looked ends total 0 0
-  looked_none = record { room = omega arith; forth = λ h. h; back = λ h. h }
-
-  module _ {from i : ℕ} (seen : Looked ends total from i) where
-    -- it does not fall
-    pub looked_on : i < length ends → from ≤ get_or ends i 0 → Looked ends total (get_or ends i 0) (i + 1)
-    looked_on inside up =
-        record {
-          room = omega arith;
-          forth = λ h. (rw (next_end ends i inside) at (seen.forth h)).1;
-          back = λ h. seen.back (rw (next_end ends i inside) (up, h));
-        }
-
-    -- it falls
-    pub looked_falls : i < length ends → get_or ends i 0 < from → Rising 0 ends total → ⊥
-    looked_falls inside down h = omega (arith, (rw (next_end ends i inside) at (seen.forth h)).0)
-
-    -- there is no more
-    pub looked_all : length ends ≤ i → Decides (eqb from total) (Rising 0 ends total)
-    looked_all all =
-        let none_left = drop_of_length-le ends all in
-        decides_equal from total (λ e. seen.back (rw none_left e)) (λ h. rw none_left at (seen.forth h))

@@ -1,6 +1,6 @@
 -- The whole run's answer, refusal by refusal: what each way out of the call has to show. Assumes nothing.
-use mathlib.Core.Path.{◌≡◌, refl, sym, ◌∙◌, ap}
-use mathlib.Core.Logic.{inl, inr}
+use mathlib.Core.Path.{◌≡◌, refl, sym, ◌∙◌}
+use mathlib.Core.Logic.{inr}
 use mathlib.Core.List.{List}
 use Prim.Native.Nat.{ℕ}
 use lib.ListN.{length}
@@ -12,20 +12,15 @@ use Rattle.definitions.specs.Answer.{Answer}
 use Rattle.definitions.specs.Calls.{open_refusals, OpenSays}
 use Rattle.definitions.specs.Demand.{with_refresh}
 use Rattle.wholerun.specs.Ends.{Rising, streams_of}
-use Rattle.definitions.proofs.Answers.{in_order_map, in_order_done, in_order_all, open_numbered}
+use Rattle.definitions.proofs.Answers.{in_order_done, in_order_all, open_numbered}
 use Rattle.wholerun.specs.WholeRun.{PlanReady, PreparedSays, RunAnswered, ran, refused, RunSays}
 
 -- what a refusal says of the number and both lists
 abbrev Untouched : List ℕ → List ℕ → ℕ → List ℕ → List ℕ → ℕ → Type 0
 Untouched book sheet number book' sheet' k = (number ≡ k) × (book' ≡ book) × (sheet' ≡ sheet)
 
--- an opening that refuses, and one that does not, whatever is then made ready
+-- an opening that does not refuse, whatever is then made ready
 module _ (o : Opening) (streams : List (List ℕ)) (book sheet : List ℕ) where
-  pub opens_not : (k : ℕ) (book' sheet' : List ℕ) → (k ≡ 0 → ⊥) → OpenSays o book sheet k book' sheet' → PreparedSays o streams book sheet k book' sheet'
-  opens_not k book' sheet' other =
-      in_order_map (open_refusals o book sheet) {R = Untouched book sheet k book' sheet'} {S = Untouched book sheet k book' sheet'}
-      (λ j said. said) (λ (t, comes, zero, written, filled). absurd (other zero))
-
   pub opens : (opened_book opened_sheet : List ℕ) {book' sheet' : List ℕ} → OpenSays o book sheet 0 opened_book opened_sheet
       → ((t : Tree) → ComesOf o t → PlanReady (expected t (with_refresh streams)) book' sheet') → PreparedSays o streams book sheet 0 book' sheet'
   opens opened_book opened_sheet {book'} {sheet'} says ready =
@@ -37,31 +32,8 @@ module _ (o : Opening) (streams : List (List ℕ)) (book sheet : List ℕ) where
       (open_refusals o book sheet) passed (t, comes, refl, ready t comes)
 
 module _ (o : Opening) (book sheet bytes ends : List ℕ) (a b : ℕ) (buffer : List ℕ) where
-  -- 1: a wrong length
-  pub says_length : (length buffer ≡ plan_buffer → ⊥)
-      → RunSays o book sheet bytes ends a b buffer (refused 1) book sheet buffer
-  says_length wrong = inl (wrong, (refl, refl, refl, refl))
-
   module _ (right : length buffer ≡ plan_buffer) where
-    -- 99: malformed ends
-    pub says_malformed : (Rising 0 ends (length bytes) → ⊥) → RunSays o book sheet bytes ends a b buffer (refused 99) book sheet buffer
-    says_malformed bad = inr (right, inl (bad, (refl, refl, refl, refl)))
-
     module _ (rising : Rising 0 ends (length bytes)) {k : ℕ} {book' sheet' : List ℕ} where
-      -- what the opening refuses
-      pub says_unopened : (k ≡ 0 → ⊥) → PreparedSays o (streams_of 0 ends bytes) book sheet k book' sheet'
-          → RunSays o book sheet bytes ends a b buffer (refused k) book' sheet' buffer
-      says_unopened other says =
-          inr (
-            right,
-            inr (
-              rising,
-              in_order_map (open_refusals o book sheet) {R = Untouched book sheet k book' sheet'}
-                  {S = λ j. (refused k ≡ refused j) × (book' ≡ book) × (sheet' ≡ sheet) × (buffer ≡ buffer)} (λ j (e, one, two). (ap refused e, one, two, refl))
-                  (λ (t, comes, zero, ready). absurd (other zero)) says,
-            ),
-          )
-
       -- none of them
       pub says_answered : {answer : Answer} {buffer' : List ℕ} → k ≡ 0 → PreparedSays o (streams_of 0 ends bytes) book sheet k book' sheet'
           → ((t : Tree) → ComesOf o t → PlanReady (expected t (with_refresh (streams_of 0 ends bytes))) book' sheet'

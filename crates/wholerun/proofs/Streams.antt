@@ -1,5 +1,5 @@
 -- Loads of the streams of one list of bytes, one after the other. Assumes nothing.
-use mathlib.Core.Path.{◌≡◌, refl, ◌∙◌}
+use mathlib.Core.Path.{◌≡◌, ◌∙◌}
 use mathlib.Core.List.{[], List, ◌∷◌, ◌++◌}
 use Prim.Native.Nat.{ℕ, zero, suc, ◌+◌, ◌-◌, ◌≤◌, ◌<◌}
 use native.Mathlib.Omega.{arith}
@@ -27,10 +27,6 @@ pub record StreamsLeft (b s bytes ends b' s' : List ℕ) (from i : ℕ) : Type 0
   pub rest : {b'' s'' : List ℕ} → Loads as_it_is b' s' (streams_of from (drop i ends) bytes) b'' s'' → Loads as_it_is b s (streams_of 0 ends bytes) b'' s''
 
 module _ {b s bytes ends : List ℕ} where
-  -- at first all are left
-  pub left_all : Rising 0 ends (length bytes) → StreamsLeft b s bytes ends b s 0 0
-  left_all rising = record { room = omega arith; book_length_lem = refl; sheet_length_lem = refl; rising = rising; rest = λ loads. loads }
-
   module _ {b' s' : List ℕ} {from i : ℕ} (left : StreamsLeft b s bytes ends b' s' from i) where
     -- where one is left, it stands between the offset and the next end
     pub left_range : i < length ends → (from ≤ get_or ends i 0) × (get_or ends i 0 ≤ length bytes)

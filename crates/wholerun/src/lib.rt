@@ -6,11 +6,13 @@ ghost use Rattle.definitions.specs.Calls.{OpenSays};
 ghost use Rattle.definitions.specs.Basics.{as_it_is};
 ghost use Rattle.definitions.specs.Demand.{Loads, refresh_alone};
 ghost use Rattle.book.specs.Decides.{Decides};
+ghost use Rattle.refusals.specs.Meaning.{status_of};
 ghost use Rattle.wholerun.specs.Ends.{Rising, streams_of};
 ghost use Rattle.wholerun.specs.Meaning.{opening_of, run_of};
 ghost use Rattle.wholerun.specs.WholeRun.{PreparedSays, RunSays};
 
-use planning::PlanAnswer;
+use planning::Planned;
+use refusals::Refusal;
 
 // The ways to open a holding; the rows of a table are lent beside it.
 #[derive(Drop)]
@@ -20,11 +22,11 @@ pub enum Opening {
     Table,
 }
 
-// The whole run's answer: that it ran, with Plan's answer; or a refusal's number.
-#[derive(Drop)]
-pub enum RunAnswer {
-    Ran(PlanAnswer),
-    Refused(u32),
+// Why a whole run does not come to Plan: the plan buffer has a wrong length, the ends are malformed, or the opening is refused.
+#[derive(Clone, Copy, Debug, PartialEq, Eq)]
+pub enum RunError {
+    Refused(Refusal),
+    MalformedEnds,
 }
 
 // The bytes that Plan is lent.
@@ -35,21 +37,18 @@ fn well_ended(ends: &[usize], total: usize) -> bool
     ensures { Decides result (Rising 0 ends.now total) }
 {
     let mut last = 0usize;
-    let mut i = 0usize;
-    while i < ends.len() {
-        let end = ends[i];
+    for &end in ends {
         if end < last {
             return false;
         }
         last = end;
-        i += 1;
     }
     last == total
 }
 
 // Opens a holding.
-fn open(opening: Opening, rows: &[u32], book: &mut [u32], sheet: &mut [u32]) -> u32
-    ensures { OpenSays (opening_of opening rows.now) book.old sheet.old result book.new sheet.new }
+fn open(opening: Opening, rows: &[u32], book: &mut [u32], sheet: &mut [u32]) -> Result<(), Refusal>
+    ensures { OpenSays (opening_of opening rows.now) book.old sheet.old (status_of result) book.new sheet.new }
 {
     match opening {
         Opening::Fresh => opening::open_fresh(book, sheet),
@@ -64,12 +63,9 @@ fn load_all(book: &mut [u32], sheet: &mut [u32], bytes: &[u8], ends: &[usize])
     ensures { Loads as_it_is book.old sheet.old (streams_of 0 ends.now bytes.now) book.new sheet.new }
 {
     let mut from = 0usize;
-    let mut i = 0usize;
-    while i < ends.len() {
-        let to = ends[i];
+    for &to in ends {
         loading::load(book, sheet, &bytes[from..to]);
         from = to;
-        i += 1;
     }
 }
 
@@ -80,7 +76,7 @@ fn refresh(book: &mut [u32], sheet: &mut [u32])
     loading::load(book, sheet, &[0x18]);
 }
 
-// Opens a holding, loads it stream by stream and refreshes it, and gives 0; else what the opening refuses, with nothing written.
+// Opens a holding, loads it stream by stream and refreshes it; or refuses what the opening does, with nothing written.
 fn prepare(
     opening: Opening,
     rows: &[u32],
@@ -88,18 +84,15 @@ fn prepare(
     sheet: &mut [u32],
     bytes: &[u8],
     ends: &[usize],
-) -> u32
+) -> Result<(), Refusal>
     requires { Rising 0 ends.now (length bytes.now) }
     ensures { PreparedSays (opening_of opening rows.now) (streams_of 0 ends.now bytes.now)
-        book.old sheet.old result book.new sheet.new }
+        book.old sheet.old (status_of result) book.new sheet.new }
 {
-    let k = open(opening, rows, book, sheet);
-    if k != 0 {
-        return k;
-    }
+    open(opening, rows, book, sheet)?;
     load_all(book, sheet, bytes, ends);
     refresh(book, sheet);
-    0
+    Ok(())
 }
 
 // The whole run: opens a holding, does a Load for each of the streams that the ends cut the bytes into and one for a refresh alone, and asks
@@ -115,19 +108,18 @@ pub fn whole_run(
     a: u32,
     b: u32,
     buffer: &mut [u8],
-) -> RunAnswer
+) -> Result<Result<Planned, Refusal>, RunError>
     ensures { RunSays (opening_of opening rows.now) book.old sheet.old bytes.now ends.now a b buffer.old
         (run_of result) book.new sheet.new buffer.new }
 {
     if buffer.len() != BUFFER {
-        return RunAnswer::Refused(1);
+        return Err(RunError::Refused(Refusal::WrongLength));
     }
     if !well_ended(ends, bytes.len()) {
-        return RunAnswer::Refused(99);
+        return Err(RunError::MalformedEnds);
     }
-    let k = prepare(opening, rows, book, sheet, bytes, ends);
-    if k != 0 {
-        return RunAnswer::Refused(k);
+    if let Err(why) = prepare(opening, rows, book, sheet, bytes, ends) {
+        return Err(RunError::Refused(why));
     }
-    RunAnswer::Ran(planning::plan(book, sheet, a, b, buffer))
+    Ok(planning::plan(book, sheet, a, b, buffer))
 }

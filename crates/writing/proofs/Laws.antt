@@ -1,7 +1,6 @@
--- The stream, piece by piece, as the loops store it: the levels of the nodes in use, and what is written of one node, from the words of a book.
+-- The stream, piece by piece, as it is stored: what is written of one node, from the words of a book.
 -- Assumes nothing.
-use mathlib.Core.Path.{◌≡◌, refl, sym, ◌∙◌, ap, subst}
-use mathlib.Core.Logic.{⊎_elim}
+use mathlib.Core.Path.{◌≡◌, refl, sym, ◌∙◌, ap}
 use mathlib.Core.Bool.{Bool, true, false, cond, not, ◌&&◌}
 use mathlib.Core.Option.{Option, none, some}
 use mathlib.Core.List.{[], List, ◌∷◌, ◌++◌}
@@ -9,8 +8,7 @@ use Prim.Native.Nat.{ℕ, suc, ◌+◌, ◌*◌, ◌≤◌, ◌<◌}
 use native.Mathlib.Numerals.{add-one}
 use native.Mathlib.Omega.{arith}
 use lib.Dec.{eqb}
-use lib.ListN.{length, get_or, set, length-append, length-set}
-use lib.Seq.{get_or-set_same, get_or-set_other}
+use lib.ListN.{length, length-append}
 use borrow.Author.Tests.{eq-eqb, ne_eqb}
 use Rattle.definitions.specs.Basics.{option, joined}
 use Rattle.definitions.specs.Limits.{machines, nodes, commands, levels}
@@ -18,10 +16,9 @@ use Rattle.definitions.specs.Tree.{Tree, Transition, UsedNode, Sound, on_hold, l
 use Rattle.definitions.specs.Edit.{is_start}
 use Rattle.definitions.specs.Book.{word}
 use Rattle.definitions.specs.Write.{pair, written_begin, written_add, written_refine, written_arrow, written_hold, written_leave, written}
-use Rattle.definitions.proofs.Options.{equal_or_not}
 use Rattle.definitions.proofs.Words.{start_range}
 use Rattle.storing.proofs.Pieces.{joined_short}
-use Rattle.writing.specs.Meaning.{Levels, written_level, written_arrows}
+use Rattle.writing.specs.Meaning.{written_level, written_arrows}
 
 -- ---- what may be absent, as a list
 
@@ -39,34 +36,6 @@ cond_short w false xs ys h k = k
 option_empty : {A B : Type 0} (f : A → List B) (o : Option A) → ((a : A) → f a ≡ []) → option [] f o ≡ []
 option_empty f none h = refl
 option_empty f (some a) h = h a
-
--- ---- the levels of the nodes in use
-
--- the list, filled from the front: no level yet
-pub levels_none : (t : Tree) (list : List ℕ) → length list ≡ nodes → Levels t 0 list
-levels_none t list e = record { length = e; at = λ n h used. absurd (omega arith) }
-
--- every level
-pub levels_all : {t : Tree} (k : ℕ) {list : List ℕ} → Levels t k list → nodes ≤ k → Levels t nodes list
-levels_all k b all = record { length = b.length; at = λ n h used. b.at n (omega arith) used }
-
--- one level more
-pub levels_more : {t : Tree} {k : ℕ} {list : List ℕ} → Levels t k list → k < nodes → {l : ℕ} → (UsedNode t k → l ≡ level t k)
-    → Levels t (k + 1) (set list k l)
-levels_more {t} {k} {list} b small {l} e =
-    record {
-      length = length-set list k l ∙ b.length;
-      at =
-          λ n under used.
-          ⊎_elim
-          (λ same.
-          ap (λ (j : ℕ). get_or (set list k l) j 0) same
-          ∙ get_or-set_same list k l 0 (omega (arith, b.length))
-          ∙ e (subst (UsedNode t) same used)
-          ∙ ap (level t) (sym same))
-          (λ other. get_or-set_other list k n l 0 other ∙ b.at n (omega (arith, other)) used)
-          (equal_or_not n k);
-    }
 
 -- ---- what is written of one node
 

@@ -1,12 +1,12 @@
 -- What the functions of this crate leave: the level of every node in use. The parts of `written`, by their names. What an answer means.
-use Rattle.std.specs.Prelude.{◌≡◌, List, [], ◌∷◌, ◌++◌, ℕ, suc, ◌+◌, ◌<◌, length, get_or}
+use Rattle.std.specs.Prelude.{◌≡◌, List, [], ◌∷◌, ◌++◌, ℕ, suc, ◌<◌, length, get_or, Result}
 use Rattle.definitions.specs.Basics.{joined}
 use Rattle.definitions.specs.Limits.{nodes, commands}
 use Rattle.definitions.specs.Tree.{Tree, UsedNode, level}
-use Rattle.definitions.specs.Answer.{Answer, gives, refuses}
+use Rattle.definitions.specs.Answer.{Answer}
 use Rattle.definitions.specs.Write.{written_add, written_refine, written_arrow}
-use Rattle.writing.specs.declared.WriteAnswer.{WriteAnswer}
-use Rattle.writing.specs.declared.WriteAnswer.TheVariants.{Written, Refused}
+use Rattle.refusals.specs.Meaning.{answered}
+use Rattle.refusals.specs.declared.Refusal.{Refusal}
 
 -- a list with room for every node that holds the levels of the first k, as far as they are in use
 pub record Levels (t : Tree) (k : ℕ) (list : List ℕ) : Type 0 where
@@ -21,6 +21,5 @@ abbrev pub written_arrows : Tree → ℕ → List ℕ
 written_arrows t n = joined commands (written_arrow t n)
 
 -- Write's answer by document 01's number and values
-abbrev pub answer_of : WriteAnswer → Answer
-answer_of (Written n) = gives (n ∷ [])
-answer_of (Refused k) = refuses k
+abbrev pub answer_of : Result ℕ Refusal → Answer
+answer_of = answered (λ n. n ∷ [])

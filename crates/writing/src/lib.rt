@@ -11,14 +11,8 @@ ghost use Rattle.book.specs.Decides.{Decides};
 ghost use Rattle.storing.specs.Stored.{Stored};
 ghost use Rattle.writing.specs.Meaning.{Levels, written_level, written_arrows, answer_of};
 
-use storing::{put_arrow, put_byte, put_node_byte, put_pair};
-
-// What Write answers: the length of the stream, or the number of a refusal.
-#[derive(Drop)]
-pub enum WriteAnswer {
-    Written(u32),
-    Refused(u32),
-}
+use refusals::Refusal;
+use storing::{put, put_arrow, put_each, put_node_byte, put_pair};
 
 // The most bytes that a stream of Write has.
 const LONGEST: usize = 34938;
@@ -40,21 +34,19 @@ fn node_levels(book: &[u32]) -> [u32; 256]
     ensures { Levels (tree_of book.now) nodes result }
 {
     let mut list = [0u32; 256];
-    let mut n = 0u32;
-    while n < book::NODES {
+    for n in 0..book::NODES {
         list[n as usize] = node_level(book, n);
-        n += 1;
     }
     list
 }
 
 // Stores begin, add or leave at a place, as far as the list goes; the next place. Opcode, machine, and a node or a cost.
-fn put_machine_pair(out: &mut [u8], at: usize, op: u32, m: u32, v: u32) -> usize
-    requires { (at + 4 < 2 ^ 64) × (op < 256) × (m < machines) × (v < 65536) }
+fn put_machine_pair(out: &mut [u8], at: usize, op: u8, m: u32, v: u32) -> usize
+    requires { (at + 4 < 2 ^ 64) × (m < machines) × (v < 65536) }
     ensures { Stored out.old at (op ∷ m ∷ pair v) result out.new }
 {
-    let machine = put_byte(out, at, op);
-    let value = put_byte(out, machine, m);
+    let machine = put(out, at, op);
+    let value = put(out, machine, m as u8);
     put_pair(out, value, v)
 }
 
@@ -63,9 +55,9 @@ fn put_refine(out: &mut [u8], at: usize, n: u32, m: u32, s: u32) -> usize
     requires { (at + 6 < 2 ^ 64) × (n < nodes) × (m < machines) × (s < nodes) }
     ensures { Stored out.old at (0x12 ∷ (pair n ++ m ∷ pair s)) result out.new }
 {
-    let node = put_byte(out, at, 0x12);
+    let node = put(out, at, 0x12);
     let machine = put_pair(out, node, n);
-    let start = put_byte(out, machine, m);
+    let start = put(out, machine, m as u8);
     put_pair(out, start, s)
 }
 
@@ -146,13 +138,12 @@ fn adds(book: &[u32], list: &[u32; 256], l: u32, out: &mut [u8], at: usize) -> u
     requires { WellFormed book.now × Levels (tree_of book.now) nodes list.now × (at + nodes * 4 < 2 ^ 64) }
     ensures { Stored out.old at (joined nodes (written_add (tree_of book.now) l)) result out.new }
 {
-    let mut p = at;
-    let mut n = 0u32;
-    while n < book::NODES {
-        p = node_add(book, list, l, n, out, p);
-        n += 1;
-    }
-    p
+    put_each(
+        book::NODES,
+        out,
+        at,
+        |n, out, p| node_add(book, list, l, n, out, p),
+    )
 }
 
 // The refines of level l, by rising node.
@@ -160,29 +151,35 @@ fn refines(book: &[u32], list: &[u32; 256], l: u32, out: &mut [u8], at: usize) -
     requires { WellFormed book.now × Levels (tree_of book.now) nodes list.now × (at + nodes * 6 < 2 ^ 64) }
     ensures { Stored out.old at (joined nodes (written_refine (tree_of book.now) l)) result out.new }
 {
-    let mut p = at;
-    let mut n = 0u32;
-    while n < book::NODES {
-        p = node_refine(book, list, l, n, out, p);
-        n += 1;
-    }
-    p
+    put_each(
+        book::NODES,
+        out,
+        at,
+        |n, out, p| node_refine(book, list, l, n, out, p),
+    )
 }
 
-// What is written of every level: first add, then refine.
+// What is written of level l + 1: first add, then refine.
+fn put_level(book: &[u32], list: &[u32; 256], l: u32, out: &mut [u8], at: usize) -> usize
+    requires { WellFormed book.now × Levels (tree_of book.now) nodes list.now × (l < levels) × (at + 2560 < 2 ^ 64) }
+    ensures { Stored out.old at (written_level (tree_of book.now) l) result out.new }
+{
+    let q = adds(book, list, l + 1, out, at);
+    refines(book, list, l + 1, out, q)
+}
+
+// What is written of every level.
 fn all_levels(book: &[u32], out: &mut [u8], at: usize) -> usize
     requires { WellFormed book.now × (at + levels * 2560 < 2 ^ 64) }
     ensures { Stored out.old at (joined levels (written_level (tree_of book.now))) result out.new }
 {
     let list = node_levels(book);
-    let mut p = at;
-    let mut l = 0u32;
-    while l < book::LEVELS {
-        l += 1;
-        let q = adds(book, &list, l, out, p);
-        p = refines(book, &list, l, out, q);
-    }
-    p
+    put_each(
+        book::LEVELS,
+        out,
+        at,
+        |l, out, p| put_level(book, &list, l, out, p),
+    )
 }
 
 // The transitions of node n, by command.
@@ -190,13 +187,12 @@ fn node_arrows(book: &[u32], n: u32, out: &mut [u8], at: usize) -> usize
     requires { WellFormed book.now × (n < nodes) × (at + commands * 8 < 2 ^ 64) }
     ensures { Stored out.old at (written_arrows (tree_of book.now) n) result out.new }
 {
-    let mut p = at;
-    let mut x = 0u32;
-    while x < book::COMMANDS {
-        p = node_arrow(book, n, x, out, p);
-        x += 1;
-    }
-    p
+    put_each(
+        book::COMMANDS,
+        out,
+        at,
+        |x, out, p| node_arrow(book, n, x, out, p),
+    )
 }
 
 // All transitions, by node, then command.
@@ -204,13 +200,12 @@ fn all_arrows(book: &[u32], out: &mut [u8], at: usize) -> usize
     requires { WellFormed book.now × (at + nodes * 128 < 2 ^ 64) }
     ensures { Stored out.old at (joined nodes (written_arrows (tree_of book.now))) result out.new }
 {
-    let mut p = at;
-    let mut node = 0u32;
-    while node < book::NODES {
-        p = node_arrows(book, node, out, p);
-        node += 1;
-    }
-    p
+    put_each(
+        book::NODES,
+        out,
+        at,
+        |n, out, p| node_arrows(book, n, out, p),
+    )
 }
 
 // The holds of 1, by node.
@@ -218,13 +213,7 @@ fn all_holds(book: &[u32], out: &mut [u8], at: usize) -> usize
     requires { WellFormed book.now × (at + nodes * 4 < 2 ^ 64) }
     ensures { Stored out.old at (joined nodes (written_hold (tree_of book.now))) result out.new }
 {
-    let mut p = at;
-    let mut n = 0u32;
-    while n < book::NODES {
-        p = node_hold(book, n, out, p);
-        n += 1;
-    }
-    p
+    put_each(book::NODES, out, at, |n, out, p| node_hold(book, n, out, p))
 }
 
 // What leaving costs where that is not 0, by machine.
@@ -232,13 +221,12 @@ fn all_leaves(book: &[u32], out: &mut [u8], at: usize) -> usize
     requires { WellFormed book.now × (at + machines * 4 < 2 ^ 64) }
     ensures { Stored out.old at (joined machines (written_leave (tree_of book.now))) result out.new }
 {
-    let mut p = at;
-    let mut m = 0u32;
-    while m < book::MACHINES {
-        p = machine_leave(book, m, out, p);
-        m += 1;
-    }
-    p
+    put_each(
+        book::MACHINES,
+        out,
+        at,
+        |m, out, p| machine_leave(book, m, out, p),
+    )
 }
 
 // Stores the stream at the front of a list, as far as the list goes; the stream's length.
@@ -269,13 +257,7 @@ fn has_room(book: &[u32], len: usize) -> bool
     requires { WellFormed book.now }
     ensures { Decides result (length (written (tree_of book.now)) ≤ len) }
 {
-    if LONGEST <= len {
-        return true;
-    }
-    if len < stream_length(book) {
-        return false;
-    }
-    true
+    LONGEST <= len || stream_length(book) <= len
 }
 
 // Stores the stream at the front of a list that has room for it; the stream's length. The rest of the list is untouched.
@@ -289,18 +271,13 @@ fn write_stream(book: &[u32], out: &mut [u8]) -> usize
 
 // Write: the stream at the front of out, the rest of out untouched, and its length. Refuses 1 (a book of a wrong length), 2 (not well formed)
 // and 15 (out shorter than the stream), with nothing written.
-pub fn write(book: &[u32], out: &mut [u8]) -> WriteAnswer
+pub fn write(book: &[u32], out: &mut [u8]) -> Result<u32, Refusal>
     ensures { WriteSays book.now out.old (answer_of result) out.new }
 {
-    if book.len() != book::BOOK {
-        return WriteAnswer::Refused(1);
-    }
-    if !wellformed::well_formed(book) {
-        return WriteAnswer::Refused(2);
-    }
+    wellformed::judge(book)?;
     if !has_room(book, out.len()) {
-        return WriteAnswer::Refused(15);
+        return Err(Refusal::NoRoom);
     }
     let n = write_stream(book, out);
-    WriteAnswer::Written(n as u32)
+    Ok(n as u32)
 }

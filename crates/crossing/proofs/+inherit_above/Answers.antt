@@ -2,15 +2,10 @@
 -- machine is one level higher. Assumes nothing.
 use mathlib.Core.Path.{◌∙◌}
 use native.Mathlib.Omega.{arith}
-use Rattle.stepping.proofs.Laws.{used_range, owner_told}
+use Rattle.stepping.proofs.Laws.{owner_told}
 use Rattle.stepping.proofs.Upward.{held, used_holder, higher}
 use Rattle.crossing.proofs.Inheriting.{handed_root, handed_row, handed_on}
 use Rattle.crossing.proofs.+inherit_above.Goals as goal
-
-pub owner-m-requires : goal.owner-m-requires
-owner-m-requires t c =
-    let p = c.requires in
-    (p.0.length, used_range c.args.book.now p.0 c.args.n p.3)
 
 pub holder-above-requires : goal.holder-above-requires
 holder-above-requires t c =
@@ -48,9 +43,6 @@ inherit-requires t c =
       held c.args.book.now p.0 c.args.n p.3 c.owner-m.ensures c.holder-above.ensures c.if-above-eq-ABSENT.false,
       handed_row c.holder-above.result c.inherit_above.ensures,
     )
-
-pub shape_of-up : goal.shape_of-up
-shape_of-up t c = c.inherit.auto.up ∙ c.inherit_above.auto.up
 
 pub returns : goal.returns
 returns t c =

@@ -1,6 +1,5 @@
 -- `crossing::land` meets its contract: the node in hand lands where the first does, and each turn goes one level down. Assumes nothing.
-use mathlib.Core.Path.{refl, ◌∙◌}
-use Prim.Native.Nat.{◌-◌}
+use mathlib.Core.Path.{◌∙◌}
 use native.Mathlib.Omega.{arith}
 use Rattle.stepping.proofs.Laws.{used_range, below_told}
 use Rattle.crossing.proofs.Landing.{lands_plain, lands_shut, LandsOn, lands_on}
@@ -17,13 +16,6 @@ next c =
     lands_on c.args.book.now c.requires.0 c.args.opened.now c.loop-v.w c.loop-v.invariant.0 c.below-b.ensures
     c.if-b-eq-ABSENT.false c.if-opened-b-ne1.false c.start-w.ensures
 
-pub loop-v-init : goal.loop-v-init
-loop-v-init c = (c.requires.2, refl)
-
-pub below-b-requires : goal.below-b-requires
-below-b-requires c =
-    (c.requires.0.length, used_range c.args.book.now c.requires.0 c.loop-v.w c.loop-v.invariant.0)
-
 pub returns-then-b-eq-ABSENT : goal.returns-then-b-eq-ABSENT
 returns-then-b-eq-ABSENT c = (
   c.loop-v.invariant.1
@@ -31,12 +23,6 @@ returns-then-b-eq-ABSENT c = (
       c.if-b-eq-ABSENT.true,
   used_range c.args.book.now c.requires.0 c.loop-v.w c.loop-v.invariant.0,
 )
-
-pub overflow_cast-b : goal.overflow_cast-b
-overflow_cast-b c = omega arith
-
-pub offset_bounds-opened-b : goal.offset_bounds-opened-b
-offset_bounds-opened-b c = omega arith
 
 pub bounds-opened-b : goal.bounds-opened-b
 bounds-opened-b c =
@@ -52,12 +38,6 @@ returns-then-opened-b-ne1 c = (
       ∙ lands_shut c.args.book.now c.requires.0 c.args.opened.now c.loop-v.w c.loop-v.invariant.0 c.below-b.ensures
       c.if-b-eq-ABSENT.false c.if-opened-b-ne1.true,
   used_range c.args.book.now c.requires.0 c.loop-v.w c.loop-v.invariant.0,
-)
-
-pub start-w-requires : goal.start-w-requires
-start-w-requires c = (
-  c.requires.0.length,
-  below_told c.args.book.now c.requires.0 c.loop-v.w c.loop-v.invariant.0 c.below-b.ensures c.if-b-eq-ABSENT.false,
 )
 
 pub loop-v-smaller : goal.loop-v-smaller

@@ -1,28 +1,14 @@
 -- `crossing::land_above` meets its contract: of the nodes that hold a machine above the first node, those passed have where they land, and each
 -- turn goes one level up. Assumes nothing.
-use mathlib.Core.Path.{sym, ◌∙◌}
 use native.Mathlib.Omega.{arith}
-use Rattle.definitions.specs.Book.{tree_of}
 use Rattle.stepping.proofs.Laws.{used_range, owner_told}
 use Rattle.stepping.proofs.Upward.{used_holder, higher}
-use Rattle.crossing.specs.Parts.{is_open}
-use Rattle.crossing.proofs.Landing.{landing_starts, landing_ends, landing_on}
+use Rattle.crossing.proofs.Landing.{landing_ends, landing_on}
 use Rattle.crossing.proofs.land_above.Goals as goal
-
-pub loop-s-init : goal.loop-s-init
-loop-s-init c =
-    landing_starts (tree_of c.args.book.now) (is_open c.args.opened.now) c.requires.3 c.requires.2
-
-pub owner-requires : goal.owner-requires
-owner-requires c =
-    (c.requires.0.length, used_range c.args.book.now c.requires.0 c.loop-s.n c.loop-s.invariant.used)
 
 pub holder-v-requires : goal.holder-v-requires
 holder-v-requires c =
     (c.requires.0.length, (owner_told c.args.book.now c.requires.0 c.loop-s.n c.loop-s.invariant.used c.owner.ensures).1)
-
-pub shape_of-lands-then-v-eq-ABSENT : goal.shape_of-lands-then-v-eq-ABSENT
-shape_of-lands-then-v-eq-ABSENT c = c.loop-s.invariant.room ∙ sym c.requires.3
 
 pub returns-then-v-eq-ABSENT : goal.returns-then-v-eq-ABSENT
 returns-then-v-eq-ABSENT c =
@@ -34,12 +20,6 @@ land-requires c = (
   c.requires.1,
   used_holder c.args.book.now c.requires.0 c.loop-s.n c.loop-s.invariant.used c.owner.ensures c.holder-v.ensures c.if-v-eq-ABSENT.false,
 )
-
-pub overflow_cast-lands : goal.overflow_cast-lands
-overflow_cast-lands c = omega arith
-
-pub offset_bounds-lands-v : goal.offset_bounds-lands-v
-offset_bounds-lands-v c = omega arith
 
 pub bounds-lands-v : goal.bounds-lands-v
 bounds-lands-v c =

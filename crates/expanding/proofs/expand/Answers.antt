@@ -1,17 +1,11 @@
 -- `expanding::expand` meets its contract: the steps traced from b are the plan's, and their commands stand at the front. Assumes nothing.
-use mathlib.Core.Path.{refl, ap, subst}
+use mathlib.Core.Path.{ap, subst}
 use native.Mathlib.Omega.{arith}
 use lib.ListN.{length}
 use Rattle.expanding.specs.Expanding.{CommandsWritten}
-use Rattle.expanding.proofs.Tracing.{steps_none}
 use Rattle.expanding.proofs.Writing.{written_front}
 use Rattle.expanding.proofs.Short.{plan_steps}
 use Rattle.expanding.proofs.expand.Goals as goal
-
-pub trace-count-requires : goal.trace-count-requires
-trace-count-requires c =
-    let p = c.requires in
-    (p.1, p.2, p.3, steps_none refl refl, omega arith)
 
 pub expand_path-end-requires : goal.expand_path-end-requires
 expand_path-end-requires c =

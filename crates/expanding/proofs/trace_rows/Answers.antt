@@ -1,6 +1,4 @@
 -- `expanding::trace_rows` meets its contract: the steps are noted one by one, and there is room for each. Assumes nothing.
-use mathlib.Core.Path.{sym, ◌∙◌}
-use Prim.Native.Nat.{◌-◌}
 use native.Mathlib.Omega.{arith}
 use Rattle.expanding.proofs.Tracing.{tracing_none, tracing_room, tracing_next, tracing_over, tracing_noted, tracing_done}
 use Rattle.expanding.proofs.trace_rows.Goals as goal
@@ -9,36 +7,16 @@ pub loop-n-init : goal.loop-n-init
 loop-n-init c =
     tracing_none c.requires.1 c.requires.2 c.requires.3
 
-pub before-u-requires : goal.before-u-requires
-before-u-requires c = (c.requires.0, c.loop-n.invariant.ahead.here)
-
-pub shape_of-left-then-u-eq-ABSENT : goal.shape_of-left-then-u-eq-ABSENT
-shape_of-left-then-u-eq-ABSENT c =
-    c.loop-n.invariant.steps.left_room ∙ sym c.requires.2.left_room
-
-pub shape_of-given-then-u-eq-ABSENT : goal.shape_of-given-then-u-eq-ABSENT
-shape_of-given-then-u-eq-ABSENT c =
-    c.loop-n.invariant.steps.given_room ∙ sym c.requires.2.given_room
-
 pub returns-then-u-eq-ABSENT : goal.returns-then-u-eq-ABSENT
 returns-then-u-eq-ABSENT c =
     let now = c.loop-n.invariant in
     tracing_done now (tracing_over now c.before-u.ensures c.if-u-eq-ABSENT.true)
-
-pub by-requires : goal.by-requires
-by-requires c =
-    (c.requires.0, c.loop-n.invariant.ahead.here)
 
 pub note-requires : goal.note-requires
 note-requires c =
     let now = c.loop-n.invariant in
     let room = tracing_room now (tracing_next now c.before-u.ensures c.if-u-eq-ABSENT.false) in
     (omega (arith, now.steps.left_room), omega (arith, now.steps.given_room))
-
-pub overflow_add-k : goal.overflow_add-k
-overflow_add-k c =
-    let now = c.loop-n.invariant in
-    omega (arith, tracing_room now (tracing_next now c.before-u.ensures c.if-u-eq-ABSENT.false))
 
 pub loop-n-smaller : goal.loop-n-smaller
 loop-n-smaller c =

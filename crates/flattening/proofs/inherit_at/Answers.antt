@@ -5,7 +5,7 @@ use Rattle.definitions.specs.Tree.{level}
 use Rattle.definitions.specs.Book.{tree_of}
 use Rattle.definitions.proofs.Options.{none_some, some_same}
 use Rattle.definitions.proofs.Words.{no_holder, present_word}
-use Rattle.flattening.proofs.Laws.{handed_off, handed_one}
+use Rattle.flattening.proofs.Laws.{handed_off}
 use Rattle.flattening.proofs.inherit_at.Goals as goal
 
 pub returns-then-h-eq-ABSENT : goal.returns-then-h-eq-ABSENT
@@ -31,7 +31,3 @@ inherit-requires c =
     let held = present_word (t.holder c.args.m) c.holder-h.ensures c.if-h-eq-ABSENT.false in
     let used = c.requires.0.sound.holder_used c.args.m c.holder-h.result held in
     (c.requires.0, c.requires.1, c.requires.2, held, c.requires.4 c.holder-h.result used (omega (arith, c.level.ensures, c.if-level-l.false)))
-
-pub returns : goal.returns
-returns c =
-    handed_one c.args.m c.inherit.ensures

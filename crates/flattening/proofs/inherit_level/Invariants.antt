@@ -1,13 +1,8 @@
 -- `flattening::inherit_level` meets its contract: the machines passed that are held at the level have their rows. Assumes nothing.
-use Prim.Native.Nat.{◌-◌, ◌≤◌, ◌<◌}
-use Rattle.definitions.specs.Limits.{machines}
+use Prim.Native.Nat.{◌<◌}
 use Rattle.definitions.specs.Book.{tree_of}
-use Rattle.inheriting.specs.Inheriting.{UpRoom}
 use Rattle.flattening.specs.Flattening.{HandedAt}
 use Rattle.flattening.proofs.inherit_level.Given as goal
 
 abbrev pub invariant-loop-m : goal.invariant-loop-m
-invariant-loop-m l = (l.m ≤ machines) × UpRoom l.up × HandedAt (tree_of l.book) l.lands l.l (λ p. p < l.m) l.initial.up l.up
-
-abbrev pub decreases-loop-m : goal.decreases-loop-m
-decreases-loop-m l = machines - l.m
+invariant-loop-m l = HandedAt (tree_of l.book) l.lands l.l (λ p. p < l.m) l.initial.up l.up

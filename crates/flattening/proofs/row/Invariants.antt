@@ -1,13 +1,8 @@
 -- `flattening::row` meets its contract: the entries passed have their steps, and the other rows are as they were. Assumes nothing.
-use Prim.Native.Nat.{◌≤◌, ◌-◌}
-use Rattle.definitions.specs.Limits.{commands}
 use Rattle.definitions.specs.Book.{tree_of}
 use Rattle.definitions.specs.Step.{step}
 use Rattle.search.proofs.Tables.{RowTo}
 use Rattle.flattening.proofs.row.Given as goal
 
 abbrev pub invariant-loop-x : goal.invariant-loop-x
-invariant-loop-x l = (l.x ≤ commands) × RowTo (step (tree_of l.book) l.n) l.n l.x l.initial.target l.initial.price l.target l.price
-
-abbrev pub decreases-loop-x : goal.decreases-loop-x
-decreases-loop-x l = commands - l.x
+invariant-loop-x l = RowTo (step (tree_of l.book) l.n) l.n l.x l.initial.target l.initial.price l.target l.price

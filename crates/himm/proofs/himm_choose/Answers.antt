@@ -5,4 +5,4 @@ use Rattle.himm.proofs.himm_choose.Goals as goal
 pub chosen-requires : goal.chosen-requires
 chosen-requires c =
     let a = c.args in
-    (c.choice.ensures.1, choice_fits a.book.now a.from a.to a.first.now a.second.now c.choice.result c.choice.ensures.0)
+    choice_fits a.book.now a.from a.to a.first.now a.second.now c.choice.result c.choice.ensures

@@ -11,8 +11,8 @@ returns-then-w-eq-NOTHING c = after_none c.args.w c.args.l c.if-w-eq-NOTHING.tru
 
 pub overflow_add-result : goal.overflow_add-result
 overflow_add-result c =
-    omega (arith, (after_some c.args.w c.args.l c.if-w-eq-NOTHING.false c.requires (omega arith)).0, c.wide.ensures.0)
+    omega (arith, (after_some c.args.w c.args.l c.if-w-eq-NOTHING.false c.requires (omega arith)).0, c.from.ensures)
 
 pub returns : goal.returns
 returns c =
-    ap (λ (l : ℕ). way_of (c.args.w + l)) c.wide.ensures.0 ∙ (after_some c.args.w c.args.l c.if-w-eq-NOTHING.false c.requires (omega arith)).1
+    ap (λ (l : ℕ). way_of (c.args.w + l)) c.from.ensures ∙ (after_some c.args.w c.args.l c.if-w-eq-NOTHING.false c.requires (omega arith)).1

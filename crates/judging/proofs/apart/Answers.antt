@@ -1,15 +1,6 @@
 -- `judging::apart` meets its contract: the owners of the two nodes differ or not. Assumes nothing.
-use Rattle.stepping.proofs.Laws.{used_range}
 use Rattle.judging.proofs.Laws.{apart_told}
 use Rattle.judging.proofs.apart.Goals as goal
-
-pub owner-requires : goal.owner-requires
-owner-requires c =
-    (c.requires.0.length, used_range c.args.book.now c.requires.0 c.args.v c.requires.2)
-
-pub owner-requires-2 : goal.owner-requires-2
-owner-requires-2 c =
-    (c.requires.0.length, used_range c.args.book.now c.requires.0 c.args.n c.requires.1)
 
 pub returns : goal.returns
 returns c =

@@ -1,11 +1,7 @@
 -- `judging::is_start` meets its contract: the start node of the owner is the node. Assumes nothing.
-use Rattle.stepping.proofs.Laws.{used_range, owner_told}
+use Rattle.stepping.proofs.Laws.{owner_told}
 use Rattle.judging.proofs.Laws.{start_told}
 use Rattle.judging.proofs.is_start.Goals as goal
-
-pub owner-requires : goal.owner-requires
-owner-requires c =
-    (c.requires.0.length, used_range c.args.book.now c.requires.0 c.args.n c.requires.1)
 
 pub start-requires : goal.start-requires
 start-requires c =

@@ -13,8 +13,8 @@ pub put_numbers-last-requires : goal.put_numbers-last-requires
 put_numbers-last-requires c =
     (omega (arith, c.put_decimal-counted.ensures.place, c.put_number-listed.ensures.place, decimal_short 9 c.args.cost (omega (arith, c.ranges.cost)), decimal_short 2 c.args.count (omega (arith, c.requires.1))), c.requires.1, c.requires.2)
 
-pub put_byte-requires : goal.put_byte-requires
-put_byte-requires c =
+pub put-requires : goal.put-requires
+put-requires c =
     let bytes = c.args.commands.now in
     let byte = c.shared_slice_known-1.given in
     omega (
@@ -31,4 +31,4 @@ returns c =
     let byte = c.shared_slice_known-1.given in
     plan_written c.requires.0 c.args.cost c.args.commands.now c.args.count c.ranges.cost.fits c.requires.1 c.requires.2
     (λ j. omega (arith, byte j)) c.put_decimal-counted.ensures c.put_number-listed.ensures c.put_numbers-last.ensures
-    c.put_byte.ensures
+    c.put.ensures

@@ -1,4 +1,5 @@
 -- `lines::put_stop` meets its contract: the parts of the line one after the other. Assumes nothing.
+use Prim.Native.Nat.{◌<◌, ◌^◌}
 use native.Mathlib.Omega.{arith}
 use Rattle.lines.proofs.Digits.{decimal_length}
 use Rattle.lines.proofs.Written.{stop_written}
@@ -10,21 +11,23 @@ put_number-last-requires c =
       arith,
       c.put_stop_word-refusal.ensures.place,
       c.put_number-offset.ensures.place,
-      decimal_length c.args.number (omega (arith, c.ranges.number)),
+      decimal_length c.from.result (omega arith),
     )
 
-pub put_byte-requires : goal.put_byte-requires
-put_byte-requires c =
+pub put-requires : goal.put-requires
+put-requires c =
     omega (
       arith,
       c.put_stop_word-refusal.ensures.place,
       c.put_number-offset.ensures.place,
       c.put_number-last.ensures.place,
-      decimal_length c.args.number (omega (arith, c.ranges.number)),
+      decimal_length c.from.result (omega arith),
       decimal_length c.args.at c.ranges.at.fits,
     )
 
 pub returns : goal.returns
 returns c =
-    stop_written c.requires c.args.number c.args.at c.ranges.number.fits c.ranges.at.fits c.put_stop_word-refusal.ensures
-    c.put_number-offset.ensures c.put_number-last.ensures c.put_byte.ensures
+    let small : c.from.result < 2 ^ 32 = omega arith in
+    rw (← c.number.ensures, ← c.from.ensures)
+    (stop_written c.requires c.from.result c.args.at small c.ranges.at.fits c.put_stop_word-refusal.ensures
+    c.put_number-offset.ensures c.put_number-last.ensures c.put.ensures)

@@ -1,57 +1,40 @@
 -- `loading::run_stream` meets its contract: what the rest of the stream leaves of what stands is what the whole stream leaves, and each turn
 -- takes a byte at least. Assumes nothing.
-use mathlib.Core.Path.{sym, ◌∙◌, ap}
-use Prim.Native.Nat.{◌+◌, ◌-◌, ◌≤◌, ◌<◌}
+use mathlib.Core.Path.{subst}
+use Prim.Native.Nat.{ℕ}
 use native.Mathlib.Omega.{arith}
-use lib.ListN.{length, drop}
-use Rattle.loading.specs.Loading.{TookNext, Stays}
-use Rattle.loading.proofs.Turns.{turned_took, turned_stays, turn_size, underway_starts, underway_on, underway_ends}
-use Rattle.loading.proofs.run_stream.Goals.{In-Stopped, In-Took}
+use lib.ListN.{drop}
+use Rattle.std.proofs.Common.{Option, Ok}
+use Rattle.loading.specs.Loading.{TookNext, Turned}
+use Rattle.loading.proofs.Turns.{turn_size, underway_on, underway_ends}
+use Rattle.loading.proofs.run_stream.Goals.{In-Ok-Some}
 use Rattle.loading.proofs.run_stream.Goals as goal
 
 -- the command that is done
-took : (c : In-Took)
+took : (c : In-Ok-Some)
     → let l = c.loop-size in
     let n = c.take_next in
-    TookNext l.book l.sheet (drop l.taken c.args.stream.now) c.in-Took.size n.new.book n.new.sheet
-took c = turned_took c.in-Took.is c.take_next.ensures
-
--- how many bytes it takes
-size : (c : In-Took)
-    → let k = c.in-Took.size in
-    (0 < k) × (c.loop-size.taken + k ≤ length c.args.stream.now)
-size c = turn_size c.loop-size.invariant (took c)
-
--- nothing more is done
-stays : (c : In-Stopped)
-    → let l = c.loop-size in
+    TookNext l.book l.sheet (drop l.taken c.args.stream.now) c.in-Ok-Some.size n.new.book n.new.sheet
+took c =
+    let l = c.loop-size in
     let n = c.take_next in
-    Stays l.book l.sheet (drop l.taken c.args.stream.now) c.in-Stopped.number n.new.book n.new.sheet
-stays c = turned_stays c.in-Stopped.is c.take_next.ensures
-
-pub loop-size-init : goal.loop-size-init
-loop-size-init c = let p = c.requires in underway_starts p.0 p.1
-
-pub take_next-requires : goal.take_next-requires
-take_next-requires c = let l = c.loop-size in (l.invariant.formed, l.invariant.filled)
+    subst (λ (o : Option ℕ). Turned l.book l.sheet (drop l.taken c.args.stream.now) (Ok o) n.new.book n.new.sheet) c.in-Ok-Some.field-0-is c.in-Ok-Some.ensures
 
 pub overflow_add-taken : goal.overflow_add-taken
-overflow_add-taken c = omega (arith, size (goal.at.overflow_add-taken c).In-Took)
-
-pub overflow_add-count : goal.overflow_add-count
-overflow_add-count c = omega (arith, size (goal.at.overflow_add-count c).In-Took, c.loop-size.invariant.counted)
+overflow_add-taken c = omega (arith, turn_size c.loop-size.invariant (took c))
 
 pub loop-size-smaller : goal.loop-size-smaller
-loop-size-smaller c = omega (arith, size (goal.at.loop-size-smaller c).In-Took)
+loop-size-smaller c = omega (arith, turn_size c.loop-size.invariant (took (goal.at.loop-size-smaller c).In-Ok-Some))
 
 pub loop-size-preserved : goal.loop-size-preserved
-loop-size-preserved c = underway_on c.loop-size.invariant (took (goal.at.loop-size-preserved c).In-Took)
+loop-size-preserved c = underway_on c.loop-size.invariant (took (goal.at.loop-size-preserved c).In-Ok-Some)
 
-pub shape_of-book-in-Stopped : goal.shape_of-book-in-Stopped
-shape_of-book-in-Stopped c = ap length (stays (goal.at.shape_of-book-in-Stopped c).In-Stopped).book ∙ c.loop-size.invariant.formed.length ∙ sym c.requires.0.length
+pub returns-in-Ok-None : goal.returns-in-Ok-None
+returns-in-Ok-None c =
+    let l = c.loop-size in
+    let n = c.take_next in
+    underway_ends l.invariant
+    (subst (λ (o : Option ℕ). Turned l.book l.sheet (drop l.taken c.args.stream.now) (Ok o) n.new.book n.new.sheet) c.in-Ok-None.field-0-is c.in-Ok-None.ensures)
 
-pub shape_of-sheet-in-Stopped : goal.shape_of-sheet-in-Stopped
-shape_of-sheet-in-Stopped c = ap length (stays (goal.at.shape_of-sheet-in-Stopped c).In-Stopped).sheet ∙ c.loop-size.invariant.filled.length ∙ sym c.requires.1.length
-
-pub returns-in-Stopped : goal.returns-in-Stopped
-returns-in-Stopped c = underway_ends c.loop-size.invariant (stays (goal.at.returns-in-Stopped c).In-Stopped)
+pub returns-in-Err : goal.returns-in-Err
+returns-in-Err c = underway_ends c.loop-size.invariant c.in-Err.ensures

@@ -1,8 +1,6 @@
 -- `marking::mark_over` meets its contract: the machines over n are those listed and those over the node in hand, and each turn goes one
 -- level up. Assumes nothing.
-use mathlib.Core.Path.{sym, ◌∙◌}
 use Rattle.definitions.specs.Book.{tree_of}
-use Rattle.stepping.proofs.Laws.{used_range}
 use Rattle.marking.proofs.Climb.{climb_starts, machine_range, stops_told, ends_told, goes_on_told, holder_used, higher_told}
 use Rattle.marking.proofs.mark_over.Goals as goal
 
@@ -10,19 +8,11 @@ pub loop-list-init : goal.loop-list-init
 loop-list-init c =
     (c.requires.2, climb_starts (tree_of c.args.book.now) c.args.sheet.now c.args.n c.requires.1.length)
 
-pub owner-m-requires : goal.owner-m-requires
-owner-m-requires c =
-    (c.requires.0.length, used_range c.args.book.now c.requires.0 c.loop-list.k c.loop-list.invariant.0)
-
 pub stale-requires : goal.stale-requires
 stale-requires c = (
   c.loop-list.invariant.1.left.length,
   machine_range c.args.book.now c.requires.0 c.requires.1 c.loop-list.k c.loop-list.invariant.0 c.owner-m.ensures,
 )
-
-pub shape_of-sheet-then-stale-eq1 : goal.shape_of-sheet-then-stale-eq1
-shape_of-sheet-then-stale-eq1 c =
-    c.loop-list.invariant.1.left.length ∙ sym c.requires.1.length
 
 pub returns-then-stale-eq1 : goal.returns-then-stale-eq1
 returns-then-stale-eq1 c =
@@ -45,10 +35,6 @@ holder-h-requires c = (
   c.requires.0.length,
   machine_range c.args.book.now c.requires.0 c.requires.1 c.loop-list.k c.loop-list.invariant.0 c.owner-m.ensures,
 )
-
-pub shape_of-sheet-then-h-eq-ABSENT : goal.shape_of-sheet-then-h-eq-ABSENT
-shape_of-sheet-then-h-eq-ABSENT c =
-    c.mark.ensures.length ∙ sym c.requires.1.length
 
 pub returns-then-h-eq-ABSENT : goal.returns-then-h-eq-ABSENT
 returns-then-h-eq-ABSENT c =

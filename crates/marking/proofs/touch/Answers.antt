@@ -1,12 +1,7 @@
 -- `marking::touch` meets its contract: nothing is done where the first machine is stale already; else those over n that are not are
 -- marked, and then their nodes' rows are blanked. Assumes nothing.
-use Rattle.stepping.proofs.Laws.{used_range}
 use Rattle.marking.proofs.Climb.{machine_range, idle_told, touched_told}
 use Rattle.marking.proofs.touch.Goals as goal
-
-pub owner-m-requires : goal.owner-m-requires
-owner-m-requires c =
-    (c.requires.0.length, used_range c.args.book.now c.requires.0 c.args.n c.requires.2)
 
 pub stale-requires : goal.stale-requires
 stale-requires c =

@@ -16,5 +16,5 @@ returns-then-m-root c =
 pub returns : goal.returns
 returns c =
     let a = c.args in
-    c.beside_machine.ensures a.h.top
+    c.beside_field.ensures a.h.top
     ∙ holder_else a.first.now a.second.now a.h.root a.h.first a.h.second a.h.top a.m c.if-m-h.false (λ e. c.if-m-root.false (e ∙ sym c.root.ensures))

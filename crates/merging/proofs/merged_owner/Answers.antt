@@ -16,4 +16,4 @@ returns-then-n-h-2 c =
 pub returns : goal.returns
 returns c =
     let a = c.args in
-    c.beside_node.ensures a.h.top ∙ owner_else a.first.now a.second.now a.h.root a.h.first a.h.second a.h.top a.n c.if-n-h.false c.if-n-h-2.false
+    c.beside_field.ensures a.h.top ∙ owner_else a.first.now a.second.now a.h.root a.h.first a.h.second a.h.top a.n c.if-n-h.false c.if-n-h-2.false

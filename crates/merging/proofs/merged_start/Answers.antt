@@ -11,4 +11,4 @@ returns-then-m-h c =
 pub returns : goal.returns
 returns c =
     let a = c.args in
-    c.beside_machine.ensures a.h.top ∙ start_else a.first.now a.second.now a.h.root a.h.first a.h.second a.h.top a.m c.if-m-h.false
+    c.beside_field.ensures a.h.top ∙ start_else a.first.now a.second.now a.h.root a.h.first a.h.second a.h.top a.m c.if-m-h.false

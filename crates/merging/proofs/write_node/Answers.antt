@@ -12,5 +12,5 @@ returns c =
     c.write_transitions.ensures h.root h.first h.second h.top
     (recorded_word {k = 1} owned c.set_below.ensures c.merged_below-below.ensures) in
     recorded_node had c.set_hold.ensures
-    (c.beside_hold-hold.ensures h.top
+    (c.beside_charge-hold.ensures h.top
     ∙ hold_else c.args.first.now c.args.second.now h.root h.first h.second h.top c.args.n)

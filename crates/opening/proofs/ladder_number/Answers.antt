@@ -2,15 +2,11 @@
 use mathlib.Core.Path.{refl, ◌∙◌, ap}
 use mathlib.Core.List.{List}
 use Prim.Native.Nat.{ℕ}
-use native.Mathlib.Omega.{arith}
 use Rattle.definitions.specs.Book.{word}
 use Rattle.definitions.specs.Open.{ladder_below, cell}
 use Rattle.opening.specs.Ladder.{ladder_right}
 use Rattle.opening.proofs.Ladder.{table_rows}
 use Rattle.opening.proofs.ladder_number.Goals as goal
-
-pub row-requires : goal.row-requires
-row-requires c = (c.requires.0, omega (arith, c.requires.0), c.requires.1)
 
 pub returns : goal.returns
 unfolding ladder_right ladder_below word

@@ -1,7 +1,7 @@
 -- `opening::lower` meets its contract: the loop goes down from n, and no node that it passed has n's owner. Assumes nothing.
 use Rattle.definitions.specs.Book.{word}
 use Rattle.opening.proofs.Reading.{lower_none, lower_last, lower_met, lower_passed}
-use mathlib.Core.Path.{◌≡◌, refl, sym, ◌∙◌, ap}
+use mathlib.Core.Path.{◌≡◌, sym, ◌∙◌, ap}
 use Prim.Native.Nat.{ℕ}
 use native.Mathlib.Omega.{arith}
 use Rattle.definitions.specs.Basics.{is_at}
@@ -14,12 +14,6 @@ returns-then-owner-eq-ABSENT c =
     let a = c.args in
     rw (lower_none a.rows.now a.n (sym c.row-owner.ensures ∙ c.if-owner-eq-ABSENT.true))
 
-pub loop-i-init : goal.loop-i-init
-loop-i-init c = (omega arith, refl)
-
-pub overflow_sub-i : goal.overflow_sub-i
-overflow_sub-i c = omega arith
-
 pub returns-then-row-owner : goal.returns-then-row-owner
 unfolding word
 returns-then-row-owner c =
@@ -29,18 +23,13 @@ returns-then-row-owner c =
     (sym c.row.ensures ∙ c.if-row-owner.true) in
     sym
     (ap word
-    (lower_last a.rows.now a.n owner.result owner.ensures c.if-owner-eq-ABSENT.false ∙ c.loop-i.invariant.1 ∙ found))
-
-pub loop-i-smaller : goal.loop-i-smaller
-loop-i-smaller c = omega arith
+    (lower_last a.rows.now a.n owner.result owner.ensures c.if-owner-eq-ABSENT.false ∙ c.loop-i.invariant ∙ found))
 
 pub loop-i-preserved : goal.loop-i-preserved
 loop-i-preserved c =
-    let a = c.args in
-    let owner = c.row-owner in
-    let passed = lower_passed a.rows.now c.loop-i.i owner.result c.if-owner-eq-ABSENT.false (omega arith)
-    (λ e. c.if-row-owner.false (c.row.ensures ∙ e)) in
-    (omega arith, c.loop-i.invariant.1 ∙ passed)
+    c.loop-i.invariant
+    ∙ lower_passed c.args.rows.now c.loop-i.i c.row-owner.result c.if-owner-eq-ABSENT.false (omega arith)
+    (λ e. c.if-row-owner.false (c.row.ensures ∙ e))
 
 pub returns : goal.returns
 unfolding word last_under
@@ -51,5 +40,5 @@ returns c =
     sym
     (ap word
     (lower_last a.rows.now a.n owner.result owner.ensures c.if-owner-eq-ABSENT.false
-    ∙ c.loop-i.invariant.1
+    ∙ c.loop-i.invariant
     ∙ ap (λ (k : ℕ). last_under k (λ j. is_at (row_owner a.rows.now j) owner.result)) down))

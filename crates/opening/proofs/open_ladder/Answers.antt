@@ -4,6 +4,7 @@ use Rattle.definitions.specs.Tree.{Tree}
 use Rattle.definitions.specs.Book.{word}
 use Rattle.definitions.specs.Open.{ladder_below, ladder_tree, ladder, ComesOf}
 use Rattle.opening.specs.Ladder.{ladder_right}
+use Rattle.refusals.specs.Meaning.{status_of}
 use Rattle.opening.specs.Writes.{OpenedAs}
 use Rattle.opening.proofs.Ladder.{table_tree}
 use Rattle.opening.proofs.Says.{opened_as}
@@ -15,5 +16,5 @@ returns c =
     let done = c.open_checked in
     let a = c.args in
     opened_as ladder_tree (ComesOf ladder) refl a.book.now a.sheet.now
-    (subst (λ (t : Tree). OpenedAs t a.book.now a.sheet.now done.result done.new.book done.new.sheet) (table_tree _ refl tt)
+    (subst (λ (t : Tree). OpenedAs t a.book.now a.sheet.now (status_of done.result) done.new.book done.new.sheet) (table_tree _ refl tt)
     done.ensures)

@@ -1,9 +1,10 @@
 -- `opening::open_rows` meets its contract: the sheet's marks are those of the book that is written. Assumes nothing.
-use Rattle.opening.proofs.Says.{rows_opened}
+use mathlib.Core.Path.{sym, ◌∙◌, ap}
+use Rattle.definitions.specs.Book.{encode}
+use Rattle.definitions.proofs.Words.{encode_tree_of}
 use Rattle.opening.proofs.open_rows.Goals as goal
 
-pub returns : goal.returns
-returns c =
-    let rows = c.args.rows.now in
-    let both = rows_opened rows c.open_book.ensures c.open_sheet.ensures in
-    record { book = both.0; sheet = both.1 }
+pub returns-clause-book : goal.returns-clause-book
+returns-clause-book c =
+    let written = c.open_book.ensures in
+    sym (encode_tree_of c.open_book.new.book written.length) ∙ ap encode written.tree

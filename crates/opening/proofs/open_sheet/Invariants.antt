@@ -1,8 +1,5 @@
 -- `opening::open_sheet` meets its contract: the rows of the machines passed, and then of the nodes passed, are an opening's. Assumes nothing.
-use mathlib.Core.Path.{◌≡◌}
-use Prim.Native.Nat.{◌-◌, ◌≤◌}
-use lib.ListN.{length}
-use Rattle.definitions.specs.Limits.{machines, nodes, sheet_length}
+use Rattle.definitions.specs.Limits.{machines}
 use Rattle.definitions.specs.Book.{tree_of}
 use Rattle.definitions.specs.Sheet.{rows_of}
 use Rattle.sheet.specs.Fields.{Marks}
@@ -10,14 +7,7 @@ use Rattle.opening.proofs.Blank.{Opened}
 use Rattle.opening.proofs.open_sheet.Given as goal
 
 abbrev pub invariant-loop-m : goal.invariant-loop-m
-invariant-loop-m l = (l.m ≤ machines) × (length l.sheet ≡ sheet_length) × Marks l.sheet × Opened (tree_of l.book) (rows_of l.sheet) l.m 0
-
-abbrev pub decreases-loop-m : goal.decreases-loop-m
-decreases-loop-m l = machines - l.m
+invariant-loop-m l = Marks l.sheet × Opened (tree_of l.book) (rows_of l.sheet) l.m 0
 
 abbrev pub invariant-loop-n : goal.invariant-loop-n
-invariant-loop-n l =
-    (l.n ≤ nodes) × (length l.sheet ≡ sheet_length) × Marks l.sheet × Opened (tree_of l.book) (rows_of l.sheet) machines l.n
-
-abbrev pub decreases-loop-n : goal.decreases-loop-n
-decreases-loop-n l = nodes - l.n
+invariant-loop-n l = Marks l.sheet × Opened (tree_of l.book) (rows_of l.sheet) machines l.n

@@ -5,12 +5,12 @@ use native.Mathlib.Omega.{arith}
 use lib.ListN.{get_or}
 use Rattle.definitions.specs.Limits.{absent}
 use Rattle.definitions.specs.Open.{cell}
-use Rattle.opening.proofs.Reading.{get_d_any}
+use Rattle.std.proofs.lemmas.List.{get_or_default}
 use Rattle.opening.proofs.row.Goals as goal
 
 pub returns : goal.returns
 unfolding cell
 returns c =
     let a = c.args in
-    get_d_any a.rows.now (3 * a.n + a.k) 0 absent (omega arith)
+    get_or_default a.rows.now (3 * a.n + a.k) 0 absent (omega arith)
     ∙ ap (λ (i : ℕ). get_or a.rows.now i absent) (omega arith)

@@ -5,42 +5,23 @@ use native.Mathlib.Omega.{arith}
 use Rattle.planning.proofs.Laws.{no_way, cost_fits, names_lead, list_fits, planned}
 use Rattle.planning.proofs.make_plan.Goals as goal
 
-pub cross-requires : goal.cross-requires
-cross-requires c =
-    let p = c.requires in (
-      record {
-        well_formed = p.formed;
-        true_sheet = p.true_sheet;
-        fresh = p.fresh;
-        from_used = p.used_a;
-        from_plain = p.plain_a;
-        to_used = p.used_b;
-      },
-      record { dist_room = refl; before_room = refl; by_room = refl },
-    )
-
-pub bounds-dist-b : goal.bounds-dist-b
-bounds-dist-b c =
-    let p = c.requires in
-    p.formed.sound.node_range _ p.used_b.0 p.used_b.1
-
 pub returns-then-cost : goal.returns-then-cost
 returns-then-cost c =
-    no_way c.requires c.cross.ensures c.args.buffer.now c.if-cost.true
+    no_way c.requires.0 c.cross.ensures c.args.buffer.now c.if-cost.true
 
 pub expand-count-requires : goal.expand-count-requires
 expand-count-requires c = (
-  record { well_formed = c.requires.formed; true_sheet = c.requires.true_sheet; fresh = c.requires.fresh },
+  record { well_formed = c.requires.0.formed; true_sheet = c.requires.0.true_sheet; fresh = c.requires.0.fresh },
   c.cross.ensures.room.before_room,
   c.cross.ensures.room.by_room,
-  names_lead c.requires c.cross.ensures c.if-cost.false,
-  list_fits c.requires c.cross.ensures c.if-cost.false,
+  names_lead c.requires.0 c.cross.ensures c.if-cost.false,
+  list_fits c.requires.0 c.cross.ensures c.if-cost.false c.requires.1,
 )
 
 pub overflow_cast-result : goal.overflow_cast-result
 overflow_cast-result c =
-    omega (arith, cost_fits c.requires c.cross.ensures c.if-cost.false)
+    omega (arith, cost_fits c.requires.0 c.cross.ensures c.if-cost.false)
 
 pub returns : goal.returns
 returns c =
-    planned c.requires c.cross.ensures c.if-cost.false refl c.expand-count.ensures.0 c.expand-count.ensures.1
+    planned c.requires.0 c.cross.ensures c.if-cost.false refl c.expand-count.ensures.0 c.expand-count.ensures.1

@@ -1,34 +1,14 @@
--- `readiness::any_stale` meets its contract. The loop's invariant: no machine below `m` is stale. Assumes nothing.
-use mathlib.Core.Path.{◌≡◌}
-use mathlib.Core.Bool.{false}
-use Prim.Native.Nat.{◌-◌}
-use native.Mathlib.Omega.{arith}
-use borrow.Author.Count.{below_more}
+-- `readiness::any_stale` meets its contract. Assumes nothing.
+use mathlib.Core.Path.{refl}
+use Rattle.std.proofs.Common.{rules}
+use Rattle.std.proofs.lemmas.Iterator.{YieldsList-from_range}
+use Rattle.std.proofs.lemmas.Iterator.Search.{any_from_yields_List}
+use Rattle.definitions.specs.Limits.{machines}
 use Rattle.definitions.specs.Sheet.{rows_of}
-use Rattle.sheet.proofs.Reading.{is_stale, is_filled}
-use Rattle.readiness.proofs.Laws.{all_fresh}
+use Rattle.readiness.proofs.Laws.{decides_stale}
 use Rattle.readiness.proofs.any_stale.Goals as goal
 
-pub loop-m-init : goal.loop-m-init
-loop-m-init c = (omega arith, λ p small. absurd (omega arith))
-
-pub stale-requires : goal.stale-requires
-stale-requires c = (c.requires, c.loop-m-test.true)
-
-pub returns-then-stale-eq1 : goal.returns-then-stale-eq1
-returns-then-stale-eq1 c =
-    (c.loop-m.m, is_stale c.stale.ensures c.if-stale-eq1.true)
-
-pub overflow_add-m : goal.overflow_add-m
-overflow_add-m c = omega arith
-
-pub loop-m-smaller : goal.loop-m-smaller
-loop-m-smaller c = omega arith
-
-pub loop-m-preserved : goal.loop-m-preserved
-loop-m-preserved c =
-    let l = c.loop-m in
-    (omega arith, below_more (λ p. (rows_of c.args.sheet.now).stale p ≡ false) l.m l.invariant.1 (is_filled c.stale.ensures c.if-stale-eq1.false))
-
 pub returns : goal.returns
-returns c = all_fresh c.args.sheet.now c.loop-m-test.false c.loop-m.invariant.1
+returns c =
+    decides_stale c.args.sheet.now
+    (any_from_yields_List (rows_of c.args.sheet.now).stale _ _ _ c.any.ensures.ran (YieldsList-from_range 0 machines machines refl refl) (λ x b q k. search rules))

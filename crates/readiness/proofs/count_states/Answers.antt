@@ -1,27 +1,20 @@
--- `readiness::count_states` meets its contract. The loop's invariant: the states below `n` are counted. Assumes nothing.
-use Prim.Native.Nat.{◌-◌}
-use native.Mathlib.Omega.{arith}
+-- `readiness::count_states` meets its contract. Assumes nothing.
+use mathlib.Core.Path.{refl, ◌∙◌}
+use Rattle.std.proofs.Common.{rules}
+use Rattle.std.specs.List.{range_with_len}
+use Rattle.std.proofs.lemmas.Iterator.{YieldsList-from_range}
+use Rattle.std.proofs.lemmas.Iterator.Consumers.{YieldsList-from_filter, count_from_yields_List}
+use Rattle.std.proofs.lemmas.List.Sums.{length-filter}
+use Rattle.definitions.specs.Limits.{nodes}
+use Rattle.definitions.specs.Tree.{is_state}
 use Rattle.definitions.specs.Book.{tree_of}
-use Rattle.readiness.proofs.Laws.{counted_none, counted_more, counted_all}
+use Rattle.readiness.proofs.Laws.{count_all}
 use Rattle.readiness.proofs.count_states.Goals as goal
 
-pub loop-n-init : goal.loop-n-init
-loop-n-init c = counted_none (tree_of c.args.book.now)
-
-pub state_at-count-requires : goal.state_at-count-requires
-state_at-count-requires c = (c.requires, c.loop-n-test.true)
-
-pub overflow_add-count : goal.overflow_add-count
-overflow_add-count c = omega (arith, (counted_more c.loop-n.invariant c.loop-n-test.true c.state_at-count.ensures).low, c.loop-n-test.true)
-
-pub overflow_add-n : goal.overflow_add-n
-overflow_add-n c = omega arith
-
-pub loop-n-smaller : goal.loop-n-smaller
-loop-n-smaller c = omega arith
-
-pub loop-n-preserved : goal.loop-n-preserved
-loop-n-preserved c = counted_more c.loop-n.invariant c.loop-n-test.true c.state_at-count.ensures
-
 pub returns : goal.returns
-returns c = counted_all c.loop-n.invariant c.loop-n-test.false
+returns c =
+    let t = tree_of c.args.book.now in
+    count_from_yields_List _ _ c.count.ensures.ran
+    (YieldsList-from_filter _ (is_state t) (YieldsList-from_range 0 nodes nodes c.filter.ensures.source refl) c.filter.ensures.closure (λ x b q k. search rules))
+    ∙ length-filter (is_state t) (range_with_len 0 nodes)
+    ∙ count_all t

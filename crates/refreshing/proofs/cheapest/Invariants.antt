@@ -1,5 +1,4 @@
 -- `refreshing::cheapest` meets its contract: the cheapest way out from the nodes at the places passed. Assumes nothing.
-use Prim.Native.Nat.{◌≤◌, ◌-◌}
 use Rattle.definitions.specs.Book.{tree_of}
 use Rattle.definitions.specs.Sheet.{rows_of}
 use Rattle.search.specs.Parts.{at}
@@ -7,8 +6,4 @@ use Rattle.refreshing.specs.Parts.{distances, Cheapest}
 use Rattle.refreshing.proofs.cheapest.Given as goal
 
 abbrev pub invariant-loop-j : goal.invariant-loop-j
-invariant-loop-j l =
-    (l.j ≤ l.k) × Cheapest (tree_of l.book) (rows_of l.sheet) (at l.members) (distances l.dist) l.x l.j l.cost l.node
-
-abbrev pub decreases-loop-j : goal.decreases-loop-j
-decreases-loop-j l = l.k - l.j
+invariant-loop-j l = Cheapest (tree_of l.book) (rows_of l.sheet) (at l.members) (distances l.dist) l.x l.j l.cost l.node

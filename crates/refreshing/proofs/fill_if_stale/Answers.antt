@@ -1,15 +1,7 @@
 -- `refreshing::fill_if_stale` meets its contract: a machine of another level, one that is not stale, one that can be filled. Assumes nothing.
 use mathlib.Core.Path.{◌∙◌}
-use Rattle.refreshing.proofs.Order.{step_other, step_fresh, step_fillable, step_filled}
+use Rattle.refreshing.proofs.Order.{step_fillable}
 use Rattle.refreshing.proofs.fill_if_stale.Goals as goal
-
-pub returns-then-word-l : goal.returns-then-word-l
-returns-then-word-l c =
-    step_other c.requires.1 (c.word.ensures ∙ c.requires.2.at c.args.m c.requires.4) c.if-word-l.true
-
-pub returns-then-stale-ne1 : goal.returns-then-stale-ne1
-returns-then-stale-ne1 c =
-    step_fresh c.requires.1 c.stale.ensures c.if-stale-ne1.true
 
 pub fill_machine-requires : goal.fill_machine-requires
 fill_machine-requires c =
@@ -21,8 +13,3 @@ fill_machine-requires c =
           (c.word.ensures ∙ p.2.at c.args.m p.4) c.if-word-l.false,
       p.5,
     )
-
-pub returns : goal.returns
-returns c =
-    let p = c.requires in
-    step_filled p.1 p.0.sound c.stale.ensures c.if-stale-ne1.false c.fill_machine.ensures

@@ -1,14 +1,7 @@
 -- `refreshing::fill_machine` meets its contract: what the search found is written to the nodes' rows and the exits, and the mark is 0.
 -- Assumes nothing.
-use mathlib.Core.Path.{refl}
-use native.Mathlib.Omega.{arith}
 use Rattle.refreshing.proofs.Machine.{searches_writable, searches_near, machine_filled}
 use Rattle.refreshing.proofs.fill_machine.Goals as goal
-
-pub find-k-requires : goal.find-k-requires
-find-k-requires c =
-    let p = c.requires in
-    (p.0, p.1, p.2, p.3, refl, refl, p.4, record { dist_room = refl; before_room = refl; by_room = refl })
 
 pub write_nodes-requires : goal.write_nodes-requires
 write_nodes-requires c =
@@ -24,10 +17,6 @@ write_exits-requires c =
       searches_near p.0.sound p.3.used.1 c.find-k.ensures p.1.rows p.3
           (record { same = λ q x other. done.exit q x }),
     )
-
-pub set_stale-requires : goal.set_stale-requires
-set_stale-requires c =
-    (c.write_exits.ensures.leaves.length, c.requires.2, omega arith)
 
 pub returns : goal.returns
 returns c =

@@ -4,11 +4,6 @@ use native.Mathlib.Omega.{arith}
 use Rattle.refreshing.proofs.Machine.{start_told, search_ready, searched_found}
 use Rattle.refreshing.proofs.find.Goals as goal
 
-pub tables-requires : goal.tables-requires
-tables-requires c =
-    let p = c.requires in
-    (record { well_formed = p.0; long = p.1.length }, (c.args.m, c.gather-k.ensures), p.6)
-
 pub word-source-requires : goal.word-source-requires
 word-source-requires c =
     let p = c.requires in

@@ -1,12 +1,7 @@
 -- `refreshing::gather` meets its contract: the nodes passed that belong to the machine have their places. Assumes nothing.
-use Prim.Native.Nat.{◌≤◌, ◌-◌}
-use Rattle.definitions.specs.Limits.{nodes}
 use Rattle.definitions.specs.Book.{tree_of}
 use Rattle.refreshing.specs.Parts.{Gathered}
 use Rattle.refreshing.proofs.gather.Given as goal
 
 abbrev pub invariant-loop-n : goal.invariant-loop-n
-invariant-loop-n l = (l.n ≤ nodes) × Gathered (tree_of l.book) l.m l.n l.k l.members l.places
-
-abbrev pub decreases-loop-n : goal.decreases-loop-n
-decreases-loop-n l = nodes - l.n
+invariant-loop-n l = Gathered (tree_of l.book) l.m l.n l.k l.members l.places

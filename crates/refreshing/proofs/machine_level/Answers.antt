@@ -1,7 +1,6 @@
 -- `refreshing::machine_level` meets its contract: the machines passed and the level of the last of them make up the level. Assumes nothing.
-use Prim.Native.Nat.{◌-◌}
 use native.Mathlib.Omega.{arith}
-use Rattle.refreshing.proofs.Levels.{level_unused, climbed_first, climbed_range, climbed_top}
+use Rattle.refreshing.proofs.Levels.{level_unused, climbed_first, climbed_top}
 use Rattle.refreshing.proofs.Levels.{climbed_holder, climbed_below, climbed_up}
 use Rattle.refreshing.proofs.machine_level.Goals as goal
 
@@ -11,10 +10,6 @@ returns-then-start-eq-ABSENT c =
 
 pub loop-m-init : goal.loop-m-init
 loop-m-init c = climbed_first c.start.ensures c.if-start-eq-ABSENT.false
-
-pub holder-h-requires : goal.holder-h-requires
-holder-h-requires c =
-    (c.requires.0.length, climbed_range c.requires.0.sound c.loop-m.invariant)
 
 pub returns-then-h-eq-ABSENT : goal.returns-then-h-eq-ABSENT
 returns-then-h-eq-ABSENT c =

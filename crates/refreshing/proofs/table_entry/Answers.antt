@@ -1,20 +1,9 @@
 -- `refreshing::table_entry` meets its contract: no move without a transition or an exit; else the target's place and the sum. Assumes
 -- nothing.
-use native.Mathlib.Omega.{arith}
 use Rattle.definitions.specs.Sheet.{rows_of}
 use Rattle.refreshing.proofs.Exits.{leave_none, leave_some}
-use Rattle.refreshing.proofs.Tabling.{placing_range, entry_blank, entry_never, entry_costs}
+use Rattle.refreshing.proofs.Tabling.{entry_blank, entry_never, entry_costs}
 use Rattle.refreshing.proofs.table_entry.Goals as goal
-
-pub counting-w-requires : goal.counting-w-requires
-counting-w-requires c =
-    let p = c.requires in
-    (p.0.well_formed, placing_range p.0.well_formed.sound p.1, p.2)
-
-pub leave-price-requires : goal.leave-price-requires
-leave-price-requires c =
-    let p = c.requires in
-    (p.0, placing_range p.0.well_formed.sound p.1, p.2, omega arith)
 
 pub returns-then-w : goal.returns-then-w
 returns-then-w c =

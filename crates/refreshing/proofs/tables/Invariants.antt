@@ -1,6 +1,4 @@
 -- `refreshing::tables` meets its contract: the entries passed have the moves of the nodes at their places. Assumes nothing.
-use Prim.Native.Nat.{◌*◌, ◌≤◌, ◌-◌}
-use Rattle.definitions.specs.Limits.{commands}
 use Rattle.definitions.specs.Book.{tree_of}
 use Rattle.definitions.specs.Sheet.{rows_of}
 use Rattle.search.specs.Parts.{at}
@@ -9,8 +7,4 @@ use Rattle.refreshing.specs.Parts.{member_move}
 use Rattle.refreshing.proofs.tables.Given as goal
 
 abbrev pub invariant-loop-j : goal.invariant-loop-j
-invariant-loop-j l =
-    (l.j ≤ commands * l.k) × EntriesTo (member_move (tree_of l.book) (rows_of l.sheet) (at l.members) (at l.places)) l.j l.target l.price
-
-abbrev pub decreases-loop-j : goal.decreases-loop-j
-decreases-loop-j l = commands * l.k - l.j
+invariant-loop-j l = EntriesTo (member_move (tree_of l.book) (rows_of l.sheet) (at l.members) (at l.places)) l.j l.target l.price

@@ -1,10 +1,6 @@
 -- `refreshing::write_nodes` meets its contract: the rows of the nodes at the places passed are written. Assumes nothing.
-use Prim.Native.Nat.{◌≤◌, ◌-◌}
 use Rattle.refreshing.specs.Parts.{NodesWritten}
 use Rattle.refreshing.proofs.write_nodes.Given as goal
 
 abbrev pub invariant-loop-i : goal.invariant-loop-i
-invariant-loop-i l = (l.i ≤ l.k) × NodesWritten l.i l.members l.dist l.before l.by l.initial.sheet l.sheet
-
-abbrev pub decreases-loop-i : goal.decreases-loop-i
-decreases-loop-i l = l.k - l.i
+invariant-loop-i l = NodesWritten l.i l.members l.dist l.before l.by l.initial.sheet l.sheet

@@ -1,12 +1,7 @@
 -- `removing::clear_into_from` meets its contract: after each turn the transitions into n are gone below x. Assumes nothing.
-use Prim.Native.Nat.{◌-◌, ◌≤◌}
-use Rattle.definitions.specs.Limits.{commands}
 use Rattle.book.specs.Fields.{Holds}
 use Rattle.removing.proofs.Into.{from_to}
 use Rattle.removing.proofs.clear_into_from.Given as goal
 
 abbrev pub invariant-loop-x : goal.invariant-loop-x
-invariant-loop-x l = (l.x ≤ commands) × Holds l.book (from_to l.initial.book l.n l.k l.x)
-
-abbrev pub decreases-loop-x : goal.decreases-loop-x
-decreases-loop-x l = commands - l.x
+invariant-loop-x l = Holds l.book (from_to l.initial.book l.n l.k l.x)

@@ -1,10 +1,6 @@
 -- `removing::goes_with` meets its contract: the list is read at the node's machine. Assumes nothing.
-use Rattle.removing.proofs.Pass.{goes_self, goes_unused, machine_range, goes_owned}
+use Rattle.removing.proofs.Pass.{goes_unused, machine_range, goes_owned}
 use Rattle.removing.proofs.goes_with.Goals as goal
-
-pub returns-then-n-k : goal.returns-then-n-k
-returns-then-n-k c =
-    goes_self c.args.book.now c.args.gone.now c.args.n c.args.k c.if-n-k.true
 
 pub returns-then-m-eq-ABSENT : goal.returns-then-m-eq-ABSENT
 returns-then-m-eq-ABSENT c =

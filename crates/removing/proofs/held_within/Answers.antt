@@ -1,8 +1,8 @@
 -- `removing::held_within` meets its contract: the climb goes from the node that holds the machine. Assumes nothing.
-use mathlib.Core.Path.{◌∙◌}
-use Rattle.definitions.specs.Tree.{within}
-use Rattle.definitions.specs.Book.{tree_of}
-use Rattle.stepping.proofs.Inside.{flag_one}
+use mathlib.Core.Path.{◌≡◌, ◌∙◌}
+use native.Mathlib.Omega.{arith}
+use lib.Dec.{eqb}
+use Rattle.std.proofs.lemmas.Grind.{common_steps}
 use Rattle.removing.proofs.Lists.{not_held, held_range, held_told}
 use Rattle.removing.proofs.held_within.Goals as goal
 
@@ -16,5 +16,5 @@ within-requires c =
 
 pub returns : goal.returns
 returns c =
-    flag_one (within (tree_of c.args.book.now) c.args.n c.holder-h.result) c.within.ensures
-    ∙ held_told c.args.book.now c.requires.0 c.args.n c.args.m c.holder-h.ensures c.if-h-eq-ABSENT.false
+    let flag : eqb c.from.result 1 ≡ c.within.result = grind (arith, common_steps) in
+    flag ∙ c.within.ensures ∙ held_told c.args.book.now c.requires.0 c.args.n c.args.m c.holder-h.ensures c.if-h-eq-ABSENT.false

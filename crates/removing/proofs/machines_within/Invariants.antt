@@ -1,13 +1,8 @@
 -- `removing::machines_within` meets its contract: the list is right below m after each turn. Assumes nothing.
-use Prim.Native.Nat.{◌-◌, ◌≤◌}
-use Rattle.definitions.specs.Limits.{machines}
 use Rattle.definitions.specs.Book.{tree_of}
 use Rattle.definitions.specs.Edit.{held_within}
 use Rattle.removing.specs.Within.{Listed}
 use Rattle.removing.proofs.machines_within.Given as goal
 
 abbrev pub invariant-loop-m : goal.invariant-loop-m
-invariant-loop-m l = (l.m ≤ machines) × Listed l.m (held_within (tree_of l.book) l.n) l.list
-
-abbrev pub decreases-loop-m : goal.decreases-loop-m
-decreases-loop-m l = machines - l.m
+invariant-loop-m l = Listed l.m (held_within (tree_of l.book) l.n) l.list

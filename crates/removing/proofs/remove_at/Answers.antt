@@ -1,18 +1,11 @@
 -- `removing::remove_at` meets its contract: the node goes, or its transitions into n are cleared, or it has none. Assumes nothing.
 use mathlib.Core.Path.{sym, ◌∙◌}
-use borrow.Author.Tests.{eq-eqb, ne_eqb}
+use borrow.Author.Tests.{ne_eqb}
 use Rattle.definitions.specs.Book.{tree_of}
 use Rattle.book.specs.Chosen.{chosen}
 use Rattle.removing.specs.Within.{goes_with}
-use Rattle.removing.proofs.Pass.{node_goes, node_stays, node_cleared}
+use Rattle.removing.proofs.Pass.{node_stays}
 use Rattle.removing.proofs.remove_at.Goals as goal
-
-pub returns-then-goes_with-eq1 : goal.returns-then-goes_with-eq1
-returns-then-goes_with-eq1 c =
-    node_goes c.args.book.now (goes_with (tree_of c.args.book.now) (chosen c.args.gone.now) c.args.n) c.args.n
-    c.args.k
-    (sym c.goes_with.ensures ∙ eq-eqb c.goes_with.result 1 c.if-goes_with-eq1.true)
-    c.drop_node.ensures
 
 pub returns-then-owner-p : goal.returns-then-owner-p
 returns-then-owner-p c =
@@ -24,12 +17,3 @@ returns-then-owner-p c =
     c.requires.3
     c.owner.ensures
     c.if-owner-p.true
-
-pub returns : goal.returns
-returns c =
-    node_cleared c.args.book.now (goes_with (tree_of c.args.book.now) (chosen c.args.gone.now) c.args.n) c.args.n
-    c.args.k
-    c.args.sheet.now
-    c.requires.0.sheet
-    (sym c.goes_with.ensures ∙ ne_eqb c.goes_with.result 1 c.if-goes_with-eq1.false)
-    c.clear_into_from.ensures

@@ -10,7 +10,7 @@ use Rattle.search.proofs.settle.Given as goal
 
 abbrev pub invariant-loop-n : goal.invariant-loop-n
 invariant-loop-n l =
-    ((length l.dist ≡ length l.initial.dist) × (length l.before ≡ length l.initial.before) × (length l.by ≡ length l.initial.by) × (length l.order ≡ nodes))
+    (length l.order ≡ nodes)
     × Turns l.k l.source l.target l.price (labels l.initial.dist l.initial.before l.initial.by) l.dist l.before l.by l.order l.count l.n
 
 abbrev pub decreases-loop-n : goal.decreases-loop-n

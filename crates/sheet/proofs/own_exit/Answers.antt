@@ -19,10 +19,10 @@ pub returns : goal.returns
 returns c =
     let sound = c.requires.0.well_formed.sound in
     let rows = rows_of_read c.args.sheet.now in
-    let left = c.wide-2.ensures.0 ∙ c.left_at-left.ensures in
+    let left = c.from-2.ensures ∙ c.left_at-left.ensures in
     elim c.if-b-eq-ABSENT.branch [
-      | then-b-eq-ABSENT w ↦ exits_plain sound rows c.args.n c.args.x c.below-b.ensures w.if-b-eq-ABSENT.true (c.wide.ensures.0 ∙ w.own-is) left
+      | then-b-eq-ABSENT w ↦ exits_plain sound rows c.args.n c.args.x c.below-b.ensures w.if-b-eq-ABSENT.true (c.from.ensures ∙ w.own-is) left
       | else-b-eq-ABSENT w ↦
           exits_costs sound rows c.args.n c.args.x c.below-b.ensures w.if-b-eq-ABSENT.false c.exit-e.ensures
-          (λ z. c.if-own.false (w.own-is ∙ z)) (c.wide.ensures.0 ∙ w.own-is) (omega (arith, c.wide.ensures.1)) left
+          (λ z. c.if-own.false (w.own-is ∙ z)) (c.from.ensures ∙ w.own-is) (omega (arith, c.from.ensures)) left
     ]

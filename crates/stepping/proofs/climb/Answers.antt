@@ -1,7 +1,6 @@
 -- `stepping::climb` meets its contract: the climb from the state comes to the node in hand, having left machines at this cost, and each turn goes
 -- one level up. What was left costs at most 65,535 for each level. Assumes nothing.
 use mathlib.Core.Path.{◌≡◌, sym}
-use Prim.Native.Nat.{◌-◌}
 use native.Mathlib.Omega.{arith}
 use Rattle.definitions.specs.Book.{tree_of}
 use Rattle.definitions.proofs.Simple.{level_small}

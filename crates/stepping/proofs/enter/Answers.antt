@@ -1,6 +1,5 @@
 -- `stepping::enter` meets its contract: the node in hand is entered where the first was, and each turn goes one level down. Assumes nothing.
 use mathlib.Core.Path.{refl, ◌∙◌}
-use Prim.Native.Nat.{◌-◌}
 use Rattle.stepping.proofs.Laws.{used_range, plain_told, below_told, EnteredOn, down_told}
 use Rattle.stepping.proofs.enter.Goals.{After-start-v}
 use Rattle.stepping.proofs.enter.Goals as goal

@@ -1,49 +1,26 @@
 -- `stepping::judge_states` meets its contract: each way out shows its refusal, or that none holds. Assumes nothing.
 use mathlib.Core.Logic.{inl, inr}
-use native.Mathlib.Omega.{arith}
 use Rattle.definitions.specs.Book.{tree_of}
 use Rattle.definitions.proofs.Options.{none_some}
 use Rattle.definitions.proofs.Words.{present_word, no_owner, no_below}
-use Rattle.stepping.proofs.States.{judged_range, judged_unused, judged_refined, judged_states}
+use Rattle.stepping.proofs.States.{judged_unused, judged_refined, judged_states}
 use Rattle.stepping.proofs.judge_states.Goals as goal
-
-pub returns-then-a-ge-NODES : goal.returns-then-a-ge-NODES
-returns-then-a-ge-NODES c =
-    judged_range c.args.book.now c.requires c.args.a c.args.b (λ range. omega (arith, range.0, c.if-a-ge-NODES.true))
-
-pub returns-then-b-ge-NODES : goal.returns-then-b-ge-NODES
-returns-then-b-ge-NODES c =
-    judged_range c.args.book.now c.requires c.args.a c.args.b (λ range. omega (arith, range.1, c.if-b-ge-NODES.true))
-
-pub owner-requires : goal.owner-requires
-owner-requires c = (c.requires.length, c.if-a-ge-NODES.false)
 
 pub returns-then-owner-eq-ABSENT : goal.returns-then-owner-eq-ABSENT
 returns-then-owner-eq-ABSENT c =
     judged_unused c.args.book.now c.requires c.args.a c.args.b (c.if-a-ge-NODES.false, c.if-b-ge-NODES.false)
     (inl (no_owner (tree_of c.args.book.now) c.requires.sound c.args.a c.owner.ensures c.if-owner-eq-ABSENT.true))
 
-pub owner-requires-2 : goal.owner-requires-2
-owner-requires-2 c = (c.requires.length, c.if-b-ge-NODES.false)
-
 pub returns-then-owner-eq-ABSENT-2 : goal.returns-then-owner-eq-ABSENT-2
 returns-then-owner-eq-ABSENT-2 c =
     judged_unused c.args.book.now c.requires c.args.a c.args.b (c.if-a-ge-NODES.false, c.if-b-ge-NODES.false)
     (inr (no_owner (tree_of c.args.book.now) c.requires.sound c.args.b c.owner-2.ensures c.if-owner-eq-ABSENT-2.true))
-
-pub below-requires : goal.below-requires
-below-requires c =
-    (c.requires.length, c.if-a-ge-NODES.false)
 
 pub returns-then-below-ne-ABSENT : goal.returns-then-below-ne-ABSENT
 returns-then-below-ne-ABSENT c =
     judged_refined c.args.book.now c.requires c.args.a c.args.b (c.if-a-ge-NODES.false, c.if-b-ge-NODES.false)
     c.owner.ensures c.if-owner-eq-ABSENT.false c.owner-2.ensures c.if-owner-eq-ABSENT-2.false
     (λ plain. none_some plain.0 (present_word ((tree_of c.args.book.now).below c.args.a) c.below.ensures c.if-below-ne-ABSENT.true))
-
-pub below-requires-2 : goal.below-requires-2
-below-requires-2 c =
-    (c.requires.length, c.if-b-ge-NODES.false)
 
 pub returns-then-below-ne-ABSENT-2 : goal.returns-then-below-ne-ABSENT-2
 returns-then-below-ne-ABSENT-2 c =

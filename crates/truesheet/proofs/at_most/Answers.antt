@@ -6,4 +6,4 @@ pub returns-then-c-eq-BLANK : goal.returns-then-c-eq-BLANK
 returns-then-c-eq-BLANK c = at_most_blank c.args.k c.if-c-eq-BLANK.true
 
 pub returns : goal.returns
-returns c = at_most_decides c.args.k c.if-c-eq-BLANK.false c.wide.ensures.0
+returns c = at_most_decides c.args.k c.if-c-eq-BLANK.false c.from.ensures

@@ -1,14 +1,10 @@
 -- `truesheet::machine_fits` meets its contract: by its mark and by whether it is in use. Assumes nothing.
 use mathlib.Core.Path.{◌≡◌}
 use native.Mathlib.Omega.{arith}
-use Rattle.book.proofs.Decide.{passed, refused}
-use Rattle.truesheet.proofs.Machines.{mark_other, machine_unused, machine_filled, stale_unused, stale_alone, machine_stale}
-use Rattle.std.proofs.lemmas.Bool.{not_from_false, not_from_true}
+use Rattle.book.proofs.Decide.{passed}
+use Rattle.truesheet.proofs.Machines.{machine_unused, machine_filled, stale_unused, machine_stale}
+use Rattle.std.proofs.lemmas.Bool.{not_from_true}
 use Rattle.truesheet.proofs.machine_fits.Goals as goal
-
-pub returns-then-mark-gt1 : goal.returns-then-mark-gt1
-returns-then-mark-gt1 c =
-    mark_other c.requires.0.well_formed.sound c.args.m c.stale-mark.ensures c.if-mark-gt1.true
 
 pub returns-then-start-eq-ABSENT : goal.returns-then-start-eq-ABSENT
 returns-then-start-eq-ABSENT c =
@@ -24,12 +20,6 @@ pub returns-then-start-eq-ABSENT-2 : goal.returns-then-start-eq-ABSENT-2
 returns-then-start-eq-ABSENT-2 c =
     let one : c.stale-mark.result ≡ 1 = omega arith in
     stale_unused c.requires.0.well_formed.sound c.args.m c.stale-mark.ensures c.start-2.ensures one c.if-start-eq-ABSENT-2.true
-
-pub returns-then-not-above_stale : goal.returns-then-not-above_stale
-returns-then-not-above_stale c =
-    let one : c.stale-mark.result ≡ 1 = omega arith in
-    stale_alone c.requires.0.well_formed.sound c.args.m c.stale-mark.ensures c.start-2.ensures one
-    (refused c.above_stale.result c.above_stale.ensures (not_from_false _ c.if-not-above_stale.true))
 
 pub returns : goal.returns
 returns c =

@@ -13,9 +13,6 @@ relaxed_word-requires c =
       shut_word c.requires.0.well_formed.sound a.n a.x c.transition-w.ensures (sym c.shut.ensures ∙ c.if-shut.true),
     )
 
-pub returns-then-shut : goal.returns-then-shut
-returns-then-shut c = c.relaxed_word.ensures
-
 pub relaxed_word-requires-2 : goal.relaxed_word-requires-2
 relaxed_word-requires-2 c =
     let a = c.args in (
@@ -25,6 +22,3 @@ relaxed_word-requires-2 c =
       c.requires.3,
       open_word c.requires.0.well_formed.sound a.n a.x c.transition-w.ensures (sym c.shut.ensures ∙ c.if-shut.false),
     )
-
-pub returns : goal.returns
-returns c = c.relaxed_word-2.ensures

@@ -1,8 +1,6 @@
 -- `truesheet::relaxed_word` meets its contract: a transition or none, then the own exit cost. Assumes nothing.
 use mathlib.Core.Path.{◌∙◌}
-use native.Mathlib.Omega.{arith}
 use Rattle.sheet.proofs.Reading.{rows_of_read}
-use Rattle.sheet.proofs.Exits.{exits_some}
 use Rattle.truesheet.proofs.Nodes.{relaxed_never, relaxed_exit, relaxed_move}
 use Rattle.truesheet.proofs.relaxed_word.Goals.{then-w-ne-BLANK, else-w-ne-BLANK}
 use Rattle.truesheet.proofs.relaxed_word.Goals as goal
@@ -13,14 +11,6 @@ returns-in_default c =
     relaxed_never c.requires.0.well_formed.sound (rows_of_read a.sheet.now) a.m a.n a.c a.x c.own_exit.ensures
     c.in_default.is
 
-pub overflow_add-wide : goal.overflow_add-wide
-overflow_add-wide c =
-    omega (arith, (exits_some c.own_exit.ensures c.in-Costs.is).1)
-
-pub overflow_add-wide-2 : goal.overflow_add-wide-2
-overflow_add-wide-2 c =
-    omega (arith, (exits_some c.own_exit.ensures c.in-Costs.is).1, c.wide.ensures.1)
-
 pub returns : goal.returns
 returns c =
     let a = c.args in
@@ -28,11 +18,11 @@ returns c =
     let rows = rows_of_read a.sheet.now in
     elim c.if-w-ne-BLANK.branch [
       | then-w-ne-BLANK v ↦
-          relaxed_move sound rows a.m a.n a.c a.x c.own_exit.ensures c.in-Costs.is c.requires.4
-          c.wide.ensures.0 c.at_most.result v.if-w-ne-BLANK.true (v.least-is ∙ c.cost-cost.ensures)
-          (c.wide-2.ensures.0 ∙ v.price-is) c.at_most.ensures
+          relaxed_move sound rows a.m a.n a.c a.x c.own_exit.ensures c.in-Some.is c.requires.4
+          c.from.ensures c.at_most.result v.if-w-ne-BLANK.true (v.least-is ∙ c.cost-cost.ensures)
+          (c.from-2.ensures ∙ v.price-is) c.at_most.ensures
       | else-w-ne-BLANK v ↦
-          relaxed_exit sound rows a.m a.n a.c a.x c.own_exit.ensures c.in-Costs.is c.requires.4
-          c.wide.ensures.0 c.at_most.result v.if-w-ne-BLANK.false (v.least-is ∙ c.exit-least.ensures)
-          (c.wide-2.ensures.0 ∙ v.price-is) c.at_most.ensures
+          relaxed_exit sound rows a.m a.n a.c a.x c.own_exit.ensures c.in-Some.is c.requires.4
+          c.from.ensures c.at_most.result v.if-w-ne-BLANK.false (v.least-is ∙ c.exit-least.ensures)
+          (c.from-2.ensures ∙ v.price-is) c.at_most.ensures
     ]

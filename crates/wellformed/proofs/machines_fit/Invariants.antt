@@ -1,12 +1,8 @@
 -- `wellformed::machines_fit` meets its contract. The loop's invariant: the machines below `m` fit. Assumes nothing.
-use Prim.Native.Nat.{ℕ, ◌-◌, ◌≤◌, ◌<◌}
-use Rattle.definitions.specs.Limits.{machines}
+use Prim.Native.Nat.{ℕ, ◌<◌}
 use Rattle.definitions.specs.Book.{tree_of}
 use Rattle.wellformed.specs.Fits.{MachineFits}
 use Rattle.wellformed.proofs.machines_fit.Given as goal
 
 abbrev pub invariant-loop-m : goal.invariant-loop-m
-invariant-loop-m l = (l.m ≤ machines) × ((k : ℕ) → k < l.m → MachineFits (tree_of l.book) k)
-
-abbrev pub decreases-loop-m : goal.decreases-loop-m
-decreases-loop-m l = machines - l.m
+invariant-loop-m l = (k : ℕ) → k < l.m → MachineFits (tree_of l.book) k

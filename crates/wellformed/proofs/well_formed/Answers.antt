@@ -10,12 +10,6 @@ use Rattle.wellformed.proofs.Reading.{tree_of_read}
 use Rattle.std.proofs.lemmas.Bool.{not_from_false, not_from_true}
 use Rattle.wellformed.proofs.well_formed.Goals as goal
 
-pub returns-then-not-root_fits : goal.returns-then-not-root_fits
-returns-then-not-root_fits c =
-    let ws = c.args.book.now in
-    let r = c.root_fits in
-    λ w. refused r.result r.ensures (not_from_false _ c.if-not-root_fits.true) ((sound_fits (tree_of_read ws)).0 w.sound).0
-
 pub returns-then-not-machines_fit : goal.returns-then-not-machines_fit
 returns-then-not-machines_fit c =
     let ws = c.args.book.now in

@@ -1,5 +1,4 @@
 -- `writing::machine_leave` meets its contract: the machine's word is 0 and nothing is stored, or its bytes are. Assumes nothing.
-use native.Mathlib.Omega.{arith}
 use Rattle.definitions.specs.Book.{tree_of}
 use Rattle.storing.proofs.Laws.{stored_none, stored_is}
 use Rattle.writing.proofs.Laws.{leave_none, leave_machine}
@@ -9,10 +8,6 @@ pub returns-then-v-eq0 : goal.returns-then-v-eq0
 returns-then-v-eq0 c =
     let t = tree_of c.args.book.now in
     stored_none c.args.out.now c.args.at (leave_none t c.args.m c.leave-v.ensures c.if-v-eq0.true)
-
-pub put_machine_pair-requires : goal.put_machine_pair-requires
-put_machine_pair-requires c =
-    (c.requires.2, omega arith, c.requires.1, omega (arith, c.leave-v.ensures, c.requires.0.sound.leave_range c.args.m))
 
 pub returns : goal.returns
 returns c =

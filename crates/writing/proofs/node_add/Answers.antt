@@ -39,7 +39,6 @@ put_machine_pair-requires c =
     let t = tree_of c.args.book.now in
     let own = present_word (t.owner c.args.n) c.owner-m.ensures c.if-m-eq-ABSENT.false in (
       c.requires.3,
-      omega arith,
       (owner_range t c.requires.0.sound c.args.n c.owner-m.result own).1,
       omega (arith, c.requires.2),
     )

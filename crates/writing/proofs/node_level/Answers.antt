@@ -13,6 +13,3 @@ pub level-requires : goal.level-requires
 level-requires c =
     let t = tree_of c.args.book.now in
     (c.requires.0, (c.owner.result, present_word (t.owner c.args.n) c.owner.ensures c.if-owner-eq-ABSENT.false))
-
-pub returns : goal.returns
-returns c = λ used. c.level.ensures

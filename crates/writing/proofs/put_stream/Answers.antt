@@ -6,14 +6,10 @@ use Rattle.storing.proofs.Laws.{stored_is, stored_then}
 use Rattle.writing.proofs.Laws.{root_range, root_start, levels_short, all_arrows_short, all_holds_short, whole_stream}
 use Rattle.writing.proofs.put_stream.Goals as goal
 
-pub start-s-requires : goal.start-s-requires
-start-s-requires c = (c.requires.length, root_range c.requires.sound c.root-m.ensures)
-
 pub put_machine_pair-p-requires : goal.put_machine_pair-p-requires
 put_machine_pair-p-requires c =
     let t = tree_of c.args.book.now in
     let st = root_start c.requires.sound c.root-m.ensures c.start-s.ensures in (
-      omega arith,
       omega arith,
       root_range c.requires.sound c.root-m.ensures,
       omega (arith, (start_range t c.requires.sound t.root c.start-s.result st).1),

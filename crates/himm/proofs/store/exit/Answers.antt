@@ -1,8 +1,0 @@
--- `himm::store::exit` meets its contract: Exit's answer, stored. Assumes nothing.
-use mathlib.Core.Path.{ap}
-use Rattle.exiting.specs.Meaning.{answer_of}
-use Rattle.himm.proofs.Laws.{stored_refused}
-use Rattle.himm.proofs.store.exit.Goals as goal
-
-pub returns-in-Refused : goal.returns-in-Refused
-returns-in-Refused c = stored_refused _ (ap answer_of c.in-Refused.is)

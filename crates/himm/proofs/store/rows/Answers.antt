@@ -1,8 +1,0 @@
--- `himm::store::rows` meets its contract: the generator's answer, stored. Assumes nothing.
-use mathlib.Core.Path.{ap}
-use Rattle.ladders.specs.Meaning.{answer_of}
-use Rattle.himm.proofs.Laws.{stored_refused}
-use Rattle.himm.proofs.store.rows.Goals as goal
-
-pub returns-in-Refused : goal.returns-in-Refused
-returns-in-Refused c = stored_refused _ (ap answer_of c.in-Refused.is)

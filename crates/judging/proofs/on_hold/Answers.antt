@@ -1,8 +1,0 @@
--- `judging::on_hold` meets its contract: the word is the hold. Assumes nothing.
-use mathlib.Core.Path.{ap}
-use Prim.Native.Nat.{ℕ}
-use lib.Dec.{eqb}
-use Rattle.judging.proofs.on_hold.Goals as goal
-
-pub returns : goal.returns
-returns c = ap (λ (h : ℕ). eqb h 1) c.hold.ensures

@@ -1,9 +1,0 @@
--- `random_plans::plan_all` is safe and ends. Assumes nothing.
-use Prim.Native.Nat.{◌-◌}
-use Rattle.random_plans.proofs.plan_all.Given as goal
-
-abbrev pub invariant-loop-a : goal.invariant-loop-a
-invariant-loop-a l = Unit {0}
-
-abbrev pub decreases-loop-a : goal.decreases-loop-a
-decreases-loop-a l = 256 - l.a
