@@ -16,10 +16,6 @@ use Rattle.book.specs.Chosen.{chosen, only, up_to}
 
 -- ---- tests
 
--- nothing is below 0; i alone does not pass where i does not
-pub none_up : (g : ℕ → Bool) → (λ (k : ℕ). false) ≡ up_to g 0
-none_up g = fun_ext λ k. sym (rw (le-ltb k 0 (omega arith)) (and-false (g k)))
-
 pub none_only : (g : ℕ → Bool) (i : ℕ) → g i ≡ false → (λ (k : ℕ). false) ≡ only g i
 none_only g i off =
     fun_ext λ k. sym (⊎_elim (λ e. ap (λ j. g j && eqb k i) e ∙ rw off) (λ ne. rw (ne_eqb k i ne) (and-false (g k))) (equal_or_not k i))
@@ -28,19 +24,6 @@ none_only g i off =
 pub one_only : (g : ℕ → Bool) (i : ℕ) → g i ≡ true → (λ (k : ℕ). eqb k i) ≡ only g i
 one_only g i on =
     fun_ext λ k. sym (⊎_elim (λ e. ap (λ j. g j && eqb k i) e ∙ rw on) (λ ne. rw (ne_eqb k i ne) (and-false (g k))) (equal_or_not k i))
-
--- a number below i + 1 is below i or is i
-pub up_more : (g : ℕ → Bool) (i : ℕ) → (λ (k : ℕ). up_to g i k || only g i k) ≡ up_to g (i + 1)
-up_more g i = fun_ext λ k. go k (g k)
-  where
-    pick : (k : ℕ) (b : Bool) → ltb k i ≡ b → (k ≡ i) ⊎ (k ≡ i → ⊥) → (b || eqb k i) ≡ ltb k (i + 1)
-    pick k true e at = sym (lt-ltb k (i + 1) (omega (arith, ltb-true k i e)))
-    pick k false e (inl same) = eq-eqb k i same ∙ sym (lt-ltb k (i + 1) (omega arith))
-    pick k false e (inr off) = ne_eqb k i off ∙ sym (le-ltb k (i + 1) (omega (arith, ltb-false k i e)))
-
-    go : (k : ℕ) (b : Bool) → (b && ltb k i || b && eqb k i) ≡ (b && ltb k (i + 1))
-    go k true = pick k (ltb k i) refl (equal_or_not k i)
-    go k false = refl
 
 -- nothing by one test and then by another
 pub unless_both : {A : Type 0} (a b : Bool) (o : Option A) → unless b (unless a o) ≡ unless (a || b) o

@@ -182,13 +182,6 @@ module _ {t : Tree} {ws after : List ℕ} where
       }
 
 module _ {ws : List ℕ} {t : Tree} where
-  -- all words of node n, all machines, all nodes
-  pub recorded_fields : {m n k : ℕ} → k ≡ node_fields → Recorded ws t m n k → Recorded ws t m n node_fields
-  recorded_fields {m} {n} all less = subst (λ k. Recorded ws t m n k) all less
-
-  pub recorded_machines : {m : ℕ} → m ≡ machines → Recorded ws t m 0 0 → Recorded ws t machines 0 0
-  recorded_machines all less = subst (λ m. Recorded ws t m 0 0) all less
-
   pub recorded_nodes : {n : ℕ} → n ≡ nodes → Recorded ws t machines n 0 → Recorded ws t machines nodes 0
   recorded_nodes all less = subst (λ n. Recorded ws t machines n 0) all less
 

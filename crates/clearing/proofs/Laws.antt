@@ -31,14 +31,6 @@ pub left_then : {a b c d e : List ℕ} {t : Tree} {r : Rows} (f : Tree → Tree)
 left_then f g first second =
     record { book = holds_then f first.book second.book; sheet = leaves_then g first.sheet second.sheet }
 
--- nothing done
-pub left_idle : (book sheet : List ℕ) → Sized book sheet → Left sheet book sheet (tree_of book) (rows_of sheet)
-left_idle book sheet sized =
-    record {
-      book = record { length = sized.book; tree = refl };
-      sheet = record { length = sized.sheet; marks = λ marks. marks; rows = refl };
-    }
-
 -- what is left is of the right lengths
 pub left_sized : {a b c : List ℕ} {t : Tree} {r : Rows} → Left a b c t r → Sized b c
 left_sized left = record { book = left.book.length; sheet = left.sheet.length }

@@ -19,13 +19,6 @@ use Rattle.definitions.proofs.Words.{present_word, owner_range, start_range, bel
 use Rattle.definitions.proofs.Commands.{none_below, below_none}
 use Rattle.stepping.proofs.Laws.{owner_told}
 
--- one of two tests, the first looked at first
-pub first_holds : {r a : Bool} (b : Bool) → r ≡ a → r ≡ true → r ≡ (a || b)
-first_holds b e holds = rw (sym e ∙ holds) holds
-
-pub first_fails : {q r a b : Bool} → q ≡ a → q ≡ false → r ≡ b → r ≡ (a || b)
-first_fails e fails second = rw (sym e ∙ fails) second
-
 -- ---- what the words say
 
 -- a word that is not that of an absent number

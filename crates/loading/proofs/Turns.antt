@@ -66,21 +66,6 @@ joined_twice i j k l a =
     λ w. record { bytes = one w; commands = two w; number = a.number }
 
 module _ {b s stream : List ℕ} where
-  -- at first nothing is taken
-  pub underway_starts : WellFormed b → TrueSheet (tree_of b) s → Underway b s stream 0 0 b s
-  underway_starts formed filled =
-      record {
-        formed = formed;
-        filled = filled;
-        room = omega arith;
-        counted = omega arith;
-        rest = λ a b'' s'' done.
-            let one : a.bytes ≡ 0 + a.bytes = omega arith in
-            let two : a.commands ≡ 0 + a.commands = omega arith in
-            subst (λ (x : LoadAnswer). LoadDone (tree_of b) (rows_of s) (load (tree_of b) stream) x b'' s'')
-            (λ w. record { bytes = one w; commands = two w; number = a.number }) done;
-      }
-
   module _ {bytes count : ℕ} {b' s' : List ℕ} (under : Underway b s stream bytes count b' s') where
     -- a command that is done takes one byte at least, and none that is not there
     pub turn_size : {size : ℕ} {b'' s'' : List ℕ} → TookNext b' s' (drop bytes stream) size b'' s'' → (0 < size) × (bytes + size ≤ length stream)

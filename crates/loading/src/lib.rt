@@ -104,8 +104,8 @@ fn run_stream(book: &mut [u32], sheet: &mut [u32], stream: &[u8]) -> Loaded
 }
 
 // Load: does the commands of a stream on a book and its sheet, up to the stream's end or the first command that is refused, and answers how
-// many bytes and commands were taken, and the refusal, if there is one. It refuses 1 (a wrong length), 2 (book not well formed) and 3 (sheet not true)
-// with nothing done; then at a command 4 to 12 or 21, with the commands before it done and nothing of it.
+// many bytes and commands were taken, and the refusal, if there is one. It refuses 1 (a wrong length), 2 (book not well formed) and 3 (sheet
+// not true) with nothing done; then at a command 4 to 12 or 21, with the commands before it done and nothing of it.
 pub fn load(book: &mut [u32], sheet: &mut [u32], stream: &[u8]) -> Loaded
     ensures { LoadSays book.old sheet.old stream.now (answer_of result) book.new sheet.new }
 {

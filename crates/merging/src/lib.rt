@@ -4,7 +4,8 @@
 
 ghost use Rattle.std.specs.Prelude.{◌≡◌, cond, ◌||◌, ℕ, ◌+◌, ◌<◌, eqb, length, get_or};
 ghost use Rattle.definitions.specs.Limits.{machines, nodes, commands, book_length, absent};
-ghost use Rattle.definitions.specs.Book.{transition_word, machine_fields, node_fields, machine_field, node_field, number, encode, tree_of, WellFormed};
+ghost use Rattle.definitions.specs.Book.{transition_word, machine_fields, node_fields, machine_field, node_field, number};
+ghost use Rattle.definitions.specs.Book.{encode, tree_of, WellFormed};
 ghost use Rattle.definitions.specs.Edit.{any_lowest};
 ghost use Rattle.definitions.specs.Answer.{InOrder};
 ghost use Rattle.definitions.specs.Calls.{RightLengths};

@@ -28,12 +28,6 @@ pub record Running (input : List ℕ) (t : Tree) (r : Rows) (count at : ℕ) (bo
   pub rest : {lines : List (List ℕ)} {v : Tree} {p : Rows} → Repeats input (tree_of book) (rows_of sheet) at lines v p
       → (all : List (List ℕ)) × Repeats input t r 0 all v p × (length all ≡ count + length lines)
 
--- at first
-pub run_starts : {input book sheet : List ℕ} → WellFormed book → TrueSheet (tree_of book) sheet
-    → Running input (tree_of book) (rows_of sheet) 0 0 book sheet
-run_starts formed filled =
-    record { formed = formed; filled = filled; within = omega arith; few = omega arith; rest = λ {lines} turns. (lines, turns, omega arith) }
-
 module _ {input : List ℕ} {t : Tree} {r : Rows} {count at : ℕ} {book sheet : List ℕ} (run : Running input t r count at book sheet) {list book' sheet' list' : List ℕ} where
   -- after a turn that gives a line
   pub run_on : {l : Line} → TurnSays input book sheet at list (Some l) book' sheet' list'
@@ -60,11 +54,6 @@ module _ {input : List ℕ} {t : Tree} {r : Rows} {count at : ℕ} {book sheet :
         formed = says.formed;
         filled = says.filled;
       }
-
--- turns that begin on what the fresh opening left
-pub from_fresh : {input book sheet : List ℕ} {count : ℕ} {book' sheet' : List ℕ} → OpenedFresh book sheet
-    → LinesMade input (tree_of book) (rows_of sheet) count book' sheet' → LinesMade input fresh_tree (open_rows fresh_tree) count book' sheet'
-from_fresh {input} {book} {sheet} {count} {book'} {sheet'} fresh made = rw (fresh.tree, fresh.rows) at made
 
 -- a session on the fresh opening prints what document 01 has it print
 pub session_made : {input : List ℕ} {count : ℕ} {book' sheet' : List ℕ}

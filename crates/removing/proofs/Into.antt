@@ -26,9 +26,6 @@ use Rattle.removing.specs.Within.{not_into, without_into_at}
 abbrev pub grown : {A : Type 0} → (ℕ → A) → (ℕ → A) → ℕ → ℕ → A
 grown f g i k = cond (ltb k i) (g k) (f k)
 
-pub grown_none : {A : Type 0} (f g : ℕ → A) → f ≡ grown f g 0
-grown_none f g = fun_ext λ k. sym (rw (le-ltb k 0 (omega arith)))
-
 -- at i it is f still
 pub grown_at : {A : Type 0} (f g : ℕ → A) (i : ℕ) → grown f g i i ≡ f i
 grown_at f g i = rw (le-ltb i i (omega arith))

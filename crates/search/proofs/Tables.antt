@@ -62,9 +62,6 @@ pub record EntriesTo (move : ℕ → ℕ → Option Arrival) (j : ℕ) (target p
   pub each : (n x : ℕ) → x < commands → commands * n + x < j → row_move target price n x ≡ move n x
 
 module _ {move : ℕ → ℕ → Option Arrival} {target price : List ℕ} where
-  pub entries_none : TableRoom target price → EntriesTo move 0 target price
-  entries_none room = record { room = room; each = λ n x range small. absurd (omega arith) }
-
   module _ {j : ℕ} (to : EntriesTo move j target price) where
     -- one entry more
     pub entries_more : (v c : ℕ) → j < commands * nodes → entry_move v c ≡ move (j / commands) (j % commands)
@@ -84,10 +81,6 @@ module _ {move : ℕ → ℕ → Option Arrival} {target price : List ℕ} where
               (equal_or_not (commands * n + x) j);
         }
 
-    -- all entries of the first k rows
-    pub entries_all : (k : ℕ) → commands * k ≤ j → Tabled move k target price
-    entries_all k all = record { moves = λ n x small range. to.each n x range (omega arith) }
-
 -- ---- one row
 
 -- the first j entries of row n have their moves, and the other rows are as they were
@@ -96,26 +89,6 @@ pub record RowTo (move : ℕ → Option Arrival) (n j : ℕ) (target price targe
   pub here : (x : ℕ) → x < j → row_move target' price' n x ≡ move x
   pub others : (u x : ℕ) → x < commands → (u ≡ n → ⊥) → row_move target' price' u x ≡ row_move target price u x
 
-pub row_starts : (move : ℕ → Option Arrival) {n : ℕ} {target price : List ℕ} → TableRoom target price → RowTo move n 0 target price target price
-row_starts move room = record { room = room; here = λ x small. absurd (omega arith); others = λ u x range apart. refl }
-
-module _ {move : ℕ → Option Arrival} {n j : ℕ} {target price old cost : List ℕ} (to : RowTo move n j target price old cost) where
-  -- one entry more
-  pub row_more : {new price' : List ℕ} → j < commands → TableRoom new price' → EntryFilled (move j) n j old cost new price'
-      → RowTo move n (j + 1) target price new price'
-  row_more {new} {price'} small room entry =
-      record {
-        room = room;
-        here = λ x less.
-            ⊎_elim (λ (same : x ≡ j). subst (λ (y : ℕ). row_move new price' n y ≡ move y) (sym same) entry.here)
-            (λ (apart : x ≡ j → ⊥). entry.others n x (omega arith) (λ e. apart) ∙ to.here x (omega arith)) (equal_or_not x j);
-        others = λ u x range apart. entry.others u x range (λ e f. apart e) ∙ to.others u x range apart;
-      }
-
-  -- all entries
-  pub row_ends : commands ≤ j → RowFilled move n target price old cost
-  row_ends all = record { here = λ x range. to.here x (omega arith); others = to.others }
-
 -- ---- all rows
 
 -- the first k rows have their moves, and the others none
@@ -123,28 +96,6 @@ pub record TabledTo (move : ℕ → ℕ → Option Arrival) (k : ℕ) (target pr
   pub room : TableRoom target price
   pub here : Tabled move k target price
   pub rest : (n : ℕ) → k ≤ n → n < nodes → BlankRow n target price
-
-pub tables_start : (move : ℕ → ℕ → Option Arrival) {target price : List ℕ} → TableRoom target price
-    → ((n : ℕ) → n < nodes → BlankRow n target price) → TabledTo move 0 target price
-tables_start move room blank = record { room = room; here = record { moves = λ n x small. absurd (omega arith) }; rest = λ n past. blank n }
-
-module _ {move : ℕ → ℕ → Option Arrival} {k : ℕ} {target price : List ℕ} (to : TabledTo move k target price) where
-  -- one row more
-  pub tables_more : {new price' : List ℕ} → TableRoom new price' → RowFilled (move k) k target price new price' → TabledTo move (k + 1) new price'
-  tables_more {new} {price'} room row =
-      record {
-        room = room;
-        here = record {
-          moves = λ n x less range.
-              ⊎_elim (λ (same : n ≡ k). subst (λ (u : ℕ). row_move new price' u x ≡ move u x) (sym same) (row.here x range))
-              (λ (apart : n ≡ k → ⊥). row.others n x range apart ∙ to.here.moves n x (omega arith) range) (equal_or_not n k);
-        };
-        rest = λ n past small x range. row.others n x range (λ e. omega arith) ∙ to.rest n (omega arith) small x range;
-      }
-
-  -- every row
-  pub tables_end : nodes ≤ k → Tabled move nodes target price
-  tables_end all = record { moves = λ n x small. to.here.moves n x (omega arith) }
 
 -- tables filled with the word for no node have no move
 pub blank_tables : (k : ℕ) (price : List ℕ) → commands * nodes ≤ k → (n : ℕ) → n < nodes → BlankRow n (replicate k absent) price

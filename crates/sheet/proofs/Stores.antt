@@ -261,13 +261,6 @@ untouched ws l = record { length = l; marks = λ marks. marks; rows = refl }
 pub leaves_same : {a b : List ℕ} {r q : Rows} → Leaves a b r → r ≡ q → Leaves a b q
 leaves_same left e = record { length = left.length; marks = left.marks; rows = left.rows ∙ e }
 
--- blank by one test and then by another
-pub blank_both : (r : Rows) (a b : ℕ → Bool) → with_blank_nodes (with_blank_nodes r a) b ≡ with_blank_nodes r (λ k. a k || b k)
-blank_both r a b =
-    same_rows _ _ (λ m. refl) (λ m x. refl) (λ m x. refl) (λ n. unless_both (a n) (b n) (r.cost n))
-    (λ n. unless_both (a n) (b n) (r.before n))
-    (λ n. unless_both (a n) (b n) (r.by n))
-
 -- a sheet's rows with machine m's row blank below command x
 abbrev pub blanked_to : List ℕ → ℕ → ℕ → Rows
 blanked_to ws m x = with_exits (rows_of ws) (cleared_to (rows_of ws).exit m x) (cleared_to (rows_of ws).last m x)

@@ -90,8 +90,8 @@ fn left_at(book: &[u32], b: u32) -> u32
     if b == book::ABSENT { 0 } else { c }
 }
 
-// The own exit cost of node n for command x: 0 for a plain node, and for a refined one what the sheet says of the machine below it and what leaving
-// that machine costs. Whether n is plain cannot be foreseen: a word is read in either case, so that no jump is needed.
+// The own exit cost of node n for command x, none where no list leaves it by x: 0 for a plain node, and for a refined one what the sheet says of the
+// machine below it and what leaving that machine costs. Whether n is plain cannot be foreseen: a word is read in either case, so that no jump is needed.
 pub fn own_exit(book: &[u32], sheet: &[u32], n: u32, x: u32) -> Option<u64>
     requires { Readable book.now sheet.now × (n < nodes) × (x < commands) }
     ensures { Exits (node_exit (tree_of book.now) (rows_of sheet.now) n x) result }

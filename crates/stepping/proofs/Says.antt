@@ -13,16 +13,7 @@ use Rattle.definitions.proofs.Options.{none_some}
 use Rattle.definitions.proofs.Words.{present_word, no_owner}
 
 module _ (book : List ℕ) (s x : ℕ) where
-  pub says_length : (length book ≡ book_length → ⊥) → StepSays book s x (refuses 1)
-  says_length wrong = inl (wrong, refl)
-
-  pub says_torn : length book ≡ book_length → (WellFormed book → ⊥) → StepSays book s x (refuses 2)
-  says_torn l torn = inr (l, inl (torn, refl))
-
   module _ (w : WellFormed book) where
-    pub says_range : ((s < nodes) × (x < commands) → ⊥) → StepSays book s x (refuses 6)
-    says_range out = inr (w.length, inr (w, inl (out, refl)))
-
     module _ (range : (s < nodes) × (x < commands)) where
       pub says_unused : {o : ℕ} → o ≡ word ((tree_of book).owner s) → o ≡ absent → StepSays book s x (refuses 7)
       says_unused e at = inr (w.length, inr (w, inr (range, inl (no_owner (tree_of book) w.sound s e at, refl))))

@@ -30,23 +30,6 @@ module _ {t : Tree} (s : Sound t) (n : ℕ) {o : ℕ} (own : o ≡ word (t.owner
       ⊎_elim (λ (at : b ≡ absent). rw (eq-eqb b absent at, present_word (t.owner n) own used, no_below t s n bel at))
       (λ (held : b ≡ absent → ⊥). rw (ne_eqb b absent held, present_word (t.owner n) own used, present_word (t.below n) bel held)) (equal_or_not b absent)
 
--- a and b are states in use
-pub record BothStates (t : Tree) (a b : ℕ) : Type 0 where
-  pub range : (a < nodes) × (b < nodes)
-  pub used : UsedNode t a × UsedNode t b
-  pub plain : (t.below a ≡ none) × (t.below b ≡ none)
-
--- judged and not refused: both are states in use
-pub both_states : (t : Tree) (a b : ℕ) {r : Result Unit Refusal} → Judged (state_refusals t a b []) r → r ≡ Ok tt → BothStates t a b
-both_states t a b judged ok =
-    let (range, (used, (plain, done))) = judged_ok (state_refusals t a b []) judged ok refl in
-    record { range = range; used = used; plain = plain }
-
--- past the refusals of two states
-pub states_past : {t : Tree} {a b : ℕ} → BothStates t a b → (rest : List asked.Refusal) (Refused : ℕ → Type 0) (Done : Type 0)
-    → InOrder rest Refused Done → InOrder (state_refusals t a b rest) Refused Done
-states_past s rest Refused Done i = inr (s.range, inr (s.used, inr (s.plain, i)))
-
 -- ---- what is judged, from what the words say
 
 module _ (ws : List ℕ) (w : WellFormed ws) (a b : ℕ) (range : (a < nodes) × (b < nodes)) where

@@ -20,10 +20,6 @@ pub stored_none : {A : Type 0} {bytes : List A} (out : List A) (at : ℕ) → by
 stored_none out at e = rw e (record { place = omega arith; list = refl })
 
 module _ {A : Type 0} {out : List A} {at : ℕ} {xs : List A} {end : ℕ} {mid : List A} (first : Stored out at xs end mid) where
-  -- a list stays as long as it is
-  pub stored_length : length mid ≡ length out
-  stored_length = ap length first.list ∙ length-sets out at xs
-
   -- the same elements
   pub stored_is : {ys : List A} → xs ≡ ys → Stored out at ys end mid
   stored_is e = rw (sym e) first

@@ -1,4 +1,4 @@
--- `himm::himm_choose_by_command` meets its contract: what `bycommand::choice` says, stored. Assumes nothing.
+-- `himm::by_command::himm_choose_by_command` meets its contract: what `bycommand::choice` says, stored. Assumes nothing.
 use Rattle.definitions.specs.ByCommand.{by_node}
 use Rattle.himm.proofs.Laws.{choice_fits}
 use Rattle.himm.proofs.by_command.himm_choose_by_command.Goals as goal
