@@ -403,9 +403,8 @@ uint32_t himm_by_node(const uint32_t *book, size_t book_len, uint32_t *out, size
 ** himm_NAME gives for the same book by node; where several are right (which of the cheapest lists a plan is, which of the cheapest ways the
 ** rows of a refreshed sheet name) it need not be the same one.
 **
-** Such a call turns a book that it reads into memory of its own, on the stack. A book that it writes it turns in place, by way of the stack, and
-** turns back before it returns, refused or not. It needs up to 20 kilobytes of stack more than himm_NAME, himm_merge_by_command up to 60 more;
-** what is said above of every call's stack holds of these too.
+** Such a call turns each book that it is lent into memory of its own, on the stack, and turns back what it writes. It needs 20 kilobytes
+** of stack more than himm_NAME, himm_merge_by_command 60 more; what is said above of every call's stack holds of these too.
 */
 uint32_t himm_open_fresh_by_command(uint32_t *book, size_t book_len, uint32_t *sheet, size_t sheet_len);
 uint32_t himm_open_ladder_by_command(uint32_t *book, size_t book_len, uint32_t *sheet, size_t sheet_len);

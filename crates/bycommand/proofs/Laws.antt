@@ -1,11 +1,13 @@
 -- What is promised of a book by node is promised of it by command. Assumes nothing.
 use mathlib.Core.Path.{◌≡◌, sym, ◌∙◌, ap, subst}
+use mathlib.Core.Logic.{⊎_elim}
 use mathlib.Core.List.{List}
 use Prim.Native.Nat.{ℕ}
 use lib.ListN.{length}
 use Rattle.definitions.specs.Limits.{book_length}
 use Rattle.definitions.specs.ByCommand.{by_command, by_node}
-use Rattle.definitions.proofs.Turned.{node_other, turns_back}
+use Rattle.definitions.proofs.Options.{equal_or_not}
+use Rattle.definitions.proofs.Turned.{node_length, node_other, turns_back}
 
 -- of a list of another length, which is handed on as it is
 pub as_it_is_lem : (P : List ℕ → Type 0) (book : List ℕ) → (length book ≡ book_length → ⊥) → P book → P (by_node book)
@@ -22,3 +24,7 @@ pub turned_back : (P : List ℕ → List ℕ → Type 0) (book : List ℕ) {ws w
     → P (by_node book) (by_node book')
 turned_back P book {ws} {ws'} there back says =
     subst (P (by_node book)) (sym (ap by_node back ∙ (turns_back ws').0)) (subst (λ vs. P vs ws') there says)
+
+-- turning changes no length
+pub node_same : (vs : List ℕ) → length (by_node vs) ≡ length vs
+node_same vs = ⊎_elim (λ len. node_length vs len ∙ sym len) (λ other. ap length (node_other vs other)) (equal_or_not (length vs) book_length)

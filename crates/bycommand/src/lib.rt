@@ -1,5 +1,5 @@
 // The calls on a book by command (document 02, W-209): each turns the lent book, makes the call on it by node, and turns back what it writes. A
-// list of another length is handed on as it is, so each call refuses what it refuses by node, in the same order.
+// list of another length is handed on as it is (Merge returns 1), so each call refuses what it refuses by node, in the same order.
 #![tactic(auto)]
 
 ghost use Rattle.std.specs.Prelude.{◌≡◌};
@@ -9,7 +9,8 @@ ghost use Rattle.definitions.specs.Write.{WriteSays};
 ghost use Rattle.definitions.specs.Choose.{ChoiceSays, ChooseSays};
 ghost use Rattle.definitions.specs.Merge.{MergeSays};
 ghost use Rattle.definitions.specs.Walk.{OpenWalkersSay, WalkSays};
-ghost use Rattle.definitions.specs.ByCommand.{by_command, by_node};
+ghost use Rattle.definitions.specs.ByCommand.{by_node};
+ghost use Rattle.bycommand.specs.Turning.{Called};
 ghost use Rattle.refusals.specs.Meaning.{status_of};
 ghost use Rattle.choosing.specs.Meaning.{choice_of};
 ghost use Rattle.exiting.specs.Meaning.{answer_of as exit_of};
@@ -38,68 +39,52 @@ fn seen_by_node<'a>(book: &'a [u32], place: &'a mut [u32; book::BOOK]) -> &'a [u
     place
 }
 
-// Makes a book by command one by node; a list of another length stays as it is.
-fn make_by_node(book: &mut [u32])
-    ensures { book.new ≡ by_node book.old }
+// Makes a call on a lent book by node, turned into a place of its own, and turns back what the call leaves there; a list of another length is handed
+// on as it is.
+fn on_turned<R, F: Fn(&mut [u32], &mut [u32]) -> R>(
+    book: &mut [u32],
+    sheet: &mut [u32],
+    call: F,
+) -> R
+    requires { F.IsAlwaysCallable call }
+    ensures { Called F.Fn call (by_node book.old) sheet.old result (by_node book.new) sheet.new }
 {
     if book.len() != TURNED {
-        return;
+        return call(book, sheet);
     }
-    let mut turned = [0u32; book::BOOK];
-    turning::turn_by_node(book, &mut turned);
-    book.copy_from_slice(&turned);
-}
-
-// And back.
-fn make_by_command(book: &mut [u32])
-    ensures { book.new ≡ by_command book.old }
-{
-    if book.len() != TURNED {
-        return;
-    }
-    let mut turned = [0u32; book::BOOK];
-    turning::turn_by_command(book, &mut turned);
-    book.copy_from_slice(&turned);
+    let mut place = [0u32; book::BOOK];
+    turning::turn_by_node(book, &mut place);
+    let answer = call(&mut place, sheet);
+    turning::turn_by_command(&place, book);
+    answer
 }
 
 // Open fresh.
 pub fn open_fresh(book: &mut [u32], sheet: &mut [u32]) -> Result<(), Refusal>
     ensures { OpenSays fresh (by_node book.old) sheet.old (status_of result) (by_node book.new) sheet.new }
 {
-    make_by_node(book);
-    let answer = opening::open_fresh(book, sheet);
-    make_by_command(book);
-    answer
+    on_turned(book, sheet, |b, s| opening::open_fresh(b, s))
 }
 
 // Open ladder.
 pub fn open_ladder(book: &mut [u32], sheet: &mut [u32]) -> Result<(), Refusal>
     ensures { OpenSays ladder (by_node book.old) sheet.old (status_of result) (by_node book.new) sheet.new }
 {
-    make_by_node(book);
-    let answer = opening::open_ladder(book, sheet);
-    make_by_command(book);
-    answer
+    on_turned(book, sheet, |b, s| opening::open_ladder(b, s))
 }
 
 // Open from a table.
 pub fn open_table(rows: &[u32], book: &mut [u32], sheet: &mut [u32]) -> Result<(), Refusal>
     ensures { OpenSays (table rows.now) (by_node book.old) sheet.old (status_of result) (by_node book.new) sheet.new }
 {
-    make_by_node(book);
-    let answer = ladders::open_table(rows, book, sheet);
-    make_by_command(book);
-    answer
+    on_turned(book, sheet, |b, s| ladders::open_table(rows, b, s))
 }
 
 // Load.
 pub fn load(book: &mut [u32], sheet: &mut [u32], stream: &[u8]) -> Loaded
     ensures { LoadSays (by_node book.old) sheet.old stream.now (loadedOf result) (by_node book.new) sheet.new }
 {
-    make_by_node(book);
-    let answer = loading::load(book, sheet, stream);
-    make_by_command(book);
-    answer
+    on_turned(book, sheet, |b, s| loading::load(b, s, stream))
 }
 
 // Exit.
@@ -174,17 +159,20 @@ pub fn merge(
     ensures { MergeSays (by_node first.now) (by_node second.now) (by_node book.old) sheet.old (status_of result)
         (by_node book.new) sheet.new }
 {
+    if first.len() != TURNED {
+        return Err(Refusal::WrongLength);
+    }
+    if second.len() != TURNED {
+        return Err(Refusal::WrongLength);
+    }
+    if book.len() != TURNED {
+        return Err(Refusal::WrongLength);
+    }
     let mut one = [0u32; book::BOOK];
     let mut two = [0u32; book::BOOK];
-    make_by_node(book);
-    let answer = merging::merge(
-        seen_by_node(first, &mut one),
-        seen_by_node(second, &mut two),
-        book,
-        sheet,
-    );
-    make_by_command(book);
-    answer
+    let first = seen_by_node(first, &mut one);
+    let second = seen_by_node(second, &mut two);
+    on_turned(book, sheet, |b, s| merging::merge(first, second, b, s))
 }
 
 // The opening of walkers.

@@ -62,6 +62,7 @@ module _ (t : Tree) {s b : ℕ} where
 pub record Upto (t : Tree) (a b : ℕ) (looked : List ℕ) (s i cost : ℕ) : Type 0 where
   pub used : UsedNode t s
   pub plain : t.below s ≡ none
+  pub short : i ≤ length looked
   pub cheap : cost ≤ i * largest_step_cost
   pub same : used_part t b a looked ≡ shifted i cost (used_part t b s (drop i looked))
 
@@ -106,6 +107,7 @@ module _ {t : Tree} (sound : Sound t) {a b : ℕ} (list : List ℕ) {looked : Li
         record {
           used = (m, own);
           plain = plain;
+          short = omega (arith, inside);
           cheap = omega (arith, upto.cheap);
           same =
               here

@@ -33,7 +33,7 @@ pub fn word(answer: Result<u32, Refusal>, word: &mut u32) -> u32
             *word = n;
             0
         }
-        Err(refusal) => refusal.number(),
+        Err(refusal) => refusal.number(), // the word stays
     }
 }
 
@@ -61,7 +61,7 @@ pub fn step(answer: Result<Moved, Refusal>, next: &mut u32, cost: &mut u32, node
             *node = moved.node;
             0
         }
-        Err(refusal) => refusal.number(),
+        Err(refusal) => refusal.number(), // all three stay
     }
 }
 
@@ -75,7 +75,7 @@ pub fn plan(answer: Result<Planned, Refusal>, cost: &mut u32, count: &mut u32) -
             *count = plan.count;
             0
         }
-        Err(refusal) => refusal.number(),
+        Err(refusal) => refusal.number(), // both stay
     }
 }
 

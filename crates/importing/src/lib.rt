@@ -28,6 +28,9 @@ pub struct Timing {
     pub dead_time: f32,
 }
 
+// How many bytes arrow has.
+const ARROW_BYTES: usize = 8;
+
 // Whether node, command and target are in range.
 fn in_range(node: u32, command: u32, target: u32) -> bool
     ensures { Decides result ((node < nodes) × (command < commands) × (target < nodes)) }
@@ -104,7 +107,7 @@ pub fn import(
             if !admitted(seconds, timing.dead_time, rest) {
                 return Err(Refusal::BadTiming);
             }
-            if out.len() < 8 {
+            if out.len() < ARROW_BYTES {
                 return Err(Refusal::NoRoom);
             }
             Ok(put_taken(out, node, command, target, rest) as u32)

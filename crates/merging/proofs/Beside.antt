@@ -12,7 +12,7 @@ use borrow.Author.Tests.{eq-eqb, ne_eqb}
 use Rattle.definitions.specs.Basics.{◌>>=◌, option, or_else}
 use Rattle.definitions.specs.Limits.{costs, absent}
 use Rattle.definitions.specs.Tree.{Tree, Sound}
-use Rattle.definitions.specs.Book.{word, tree_of, WellFormed}
+use Rattle.definitions.specs.Book.{word, machine_field, node_field, tree_of, WellFormed}
 use Rattle.definitions.specs.Merge.{rising, renumbered, beside}
 use Rattle.definitions.proofs.Options.{equal_or_not}
 use Rattle.definitions.proofs.Words.{present_word, absent_word, owner_range, below_range, start_range, holder_range}
@@ -91,12 +91,18 @@ number_at Kind.Machines t m (suc k) = t.start m
 number_at Kind.Nodes t n zero = t.owner n
 number_at Kind.Nodes t n (suc k) = t.below n
 
+pub machine_number_lem : (t : Tree) (m k : ℕ) → machine_field t m k ≡ word (number_at Kind.Machines t m k)
+machine_number_lem t m zero = refl
+machine_number_lem t m (suc k) = refl
+
+pub node_number_lem : (t : Tree) (n k : ℕ) → k < 2 → node_field t n k ≡ word (number_at Kind.Nodes t n k)
+node_number_lem t n zero h = refl
+node_number_lem t n (suc zero) h = refl
+node_number_lem t n (suc (suc k)) h = absurd (omega arith)
+
 pub number_at_lem : (kind : Kind) (t : Tree) (i k : ℕ) → k < 2 → field_of kind t i k ≡ word (number_at kind t i k)
-number_at_lem Kind.Machines t m zero h = refl
-number_at_lem Kind.Machines t m (suc k) h = refl
-number_at_lem Kind.Nodes t n zero h = refl
-number_at_lem Kind.Nodes t n (suc zero) h = refl
-number_at_lem Kind.Nodes t n (suc (suc k)) h = absurd (omega arith)
+number_at_lem Kind.Machines t m k h = machine_number_lem t m k
+number_at_lem Kind.Nodes t n k h = node_number_lem t n k h
 
 number_small : (kind : Kind) (t : Tree) → Sound t → (i k : ℕ) → Small (size_of (named_by kind)) (number_at kind t i k)
 number_small Kind.Machines t s m zero n e = (holder_range t s m n e).1

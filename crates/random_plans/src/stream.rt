@@ -1,6 +1,8 @@
 // The test's own reading of streams: each command is read from its bytes, judged on the own station and done there, up to the stream's end
 // or the first that is refused.
-ghost use Rattle.std.specs.Prelude.{◌<◌};
+ghost use Rattle.std.specs.Prelude.{◌≡◌, ℕ, ◌≤◌, ◌<◌};
+ghost use Rattle.std.proofs.Math.Option.{some};
+ghost use Rattle.refusals.specs.Meaning.{value_of};
 
 use crate::edits;
 use crate::station::{
@@ -65,7 +67,9 @@ fn two(stream: &Bytes, at: usize, k: usize) -> u32 {
 }
 
 // How many bytes of operands follow an opcode; nothing of an unknown one.
-fn operands(op: u32) -> Option<usize> {
+fn operands(op: u32) -> Option<usize>
+    ensures { (size : ℕ) → value_of result ≡ some size → size ≤ 7 }
+{
     match op {
         0x10 | 0x11 | 0x15 | 0x17 | 0x1A | 0x1B => Some(3),
         0x12 => Some(5),

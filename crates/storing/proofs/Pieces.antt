@@ -11,7 +11,7 @@ use Rattle.storing.specs.Stored.{Stored}
 use Rattle.storing.proofs.Laws.{stored_none, stored_then}
 
 -- one piece more, at the end
-joined_suc : {A : Type 0} (k : ℕ) (f : ℕ → List A) → joined (suc k) f ≡ joined k f ++ f k
+pub joined_suc : {A : Type 0} (k : ℕ) (f : ℕ → List A) → joined (suc k) f ≡ joined k f ++ f k
 unfolding joined
 joined_suc zero f = append-nil (f 0)
 joined_suc {A} (suc k) f =

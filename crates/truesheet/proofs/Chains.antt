@@ -112,8 +112,9 @@ follows_here {r} {n} {v} {j} a last short =
     record { near = λ e. subst (NamesLead r n) same (a.to 0 (steps_here last)); far = λ long. absurd (omega arith) }
 
 -- and where there are too many
-pub follows_far : {r : Rows} {n v j : ℕ} → Ahead r n v j → longest_chain < j → Follows r n j
-follows_far a long = record { near = λ short. absurd (omega arith); far = λ _ (i, short, way). let (h, f, rest) = a.from i way in omega arith }
+pub follows_far : {r : Rows} {n v j k : ℕ} → Ahead r n v j → longest_chain < j → longest_chain < k → Follows r n k
+follows_far a long large =
+    record { near = λ short. absurd (omega arith); far = λ _ (i, short, way). let (h, f, rest) = a.from i way in omega arith }
 
 -- ---- counting
 

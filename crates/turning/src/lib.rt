@@ -27,7 +27,9 @@ fn copy(from: &[u32], at: usize, out: &mut [u32], to: usize, count: usize)
     ensures { (f : List ℕ) → Front to f out.old → ((i : ℕ) → i < count → get_or from.now (at + i) 0 ≡ get_or f (to + i) 0)
         → Front (to + count) f out.new }
 {
-    out[to..to + count].copy_from_slice(&from[at..at + count]);
+    for i in 0..count {
+        out[to + i] = from[at + i];
+    }
 }
 
 // Writes the transition words of command x.

@@ -1,13 +1,9 @@
 -- `truesheet::follow` meets its contract. The loop's invariant: `v` is `steps` steps on from `n`. Assumes nothing.
-use mathlib.Core.Path.{◌≡◌, subst}
-use Prim.Native.Nat.{◌+◌}
 use native.Mathlib.Omega.{arith}
-use Rattle.definitions.specs.Limits.{longest_chain}
 use Rattle.definitions.specs.Sheet.{rows_of}
 use Rattle.definitions.proofs.Words.{present_word}
 use Rattle.book.proofs.Said.{unsaid}
 use Rattle.sheet.proofs.Reading.{rows_of_read}
-use Rattle.truesheet.specs.Fits.{Follows}
 use Rattle.truesheet.proofs.Chains.{ahead_more, follows_counted, follows_here, follows_far}
 use Rattle.truesheet.proofs.follow.Goals as goal
 
@@ -26,6 +22,4 @@ loop-steps-preserved c =
     (c.requires.0.names c.loop-steps.v c.before-u.result next, ahead_more next c.loop-steps.invariant.1)
 
 pub returns : goal.returns
-returns c =
-    let over : c.loop-steps.steps ≡ longest_chain + 1 = omega arith in
-    subst (Follows _ _) over (follows_far c.loop-steps.invariant.1 (omega arith))
+returns c = follows_far c.loop-steps.invariant.1 (omega arith) (omega arith)
